@@ -1,0 +1,31 @@
+-- Alternatives: which of several layouts stands here is told by a field in front of it.
+use mathlib.Core.Path.{_≡_}
+use mathlib.Core.Bool.{Bool, _&&_, _||_}
+use mathlib.Core.Option.{Option, none, some}
+use Prim.Native.Nat.{ℕ}
+use mathlib.Core.List.{List, [], _∷_}
+use lib.Dec.{eqb}
+use Rattle.format.specs.Layout.{Layout, either}
+
+-- The values of one case of a type, which a letter tells. An alternative that is off is not allowed here.
+pub record Alternative (B : Type 0) (letterOf : B → ℕ) : Type 1 where
+  pub letter : ℕ
+  pub on : Bool
+  pub layout : Layout B
+  pub tells : (b : B) → layout .Good b → letterOf b ≡ letter
+
+module _ {B : Type 0} {letterOf : B → ℕ} where
+  -- The letter is that of an alternative that is on; the first one always is.
+  abbrev pub among : Alternative B letterOf → List (Alternative B letterOf) → ℕ → Bool
+  among first [] c = eqb c (first .letter)
+  among first (x ∷ xs) c = x .on && eqb c (x .letter) || among first xs c
+
+  -- The layout that the letter tells.
+  abbrev pub told : Alternative B letterOf → List (Alternative B letterOf) → ℕ → Layout B
+  told first [] c = first .layout
+  told first (x ∷ xs) c = either (x .on && eqb c (x .letter)) (x .layout) (told first xs c)
+
+-- The value of the flag that tells whether a part is there.
+abbrev pub flagFor : {A : Type 0} → ℕ → ℕ → Option A → ℕ
+flagFor present absent none = absent
+flagFor present absent (some a) = present

@@ -1,0 +1,35 @@
+-- A good value tells the letter, or the flag, that led to its layout.
+use mathlib.Core.Path.{_≡_, refl, sym, _∙_}
+use mathlib.Core.Bool.{Bool, true, false, _&&_, _||_, cond}
+use mathlib.Core.Option.{Option, none, some}
+use Prim.Native.Nat.{ℕ}
+use mathlib.Core.List.{List, [], _∷_}
+use lib.Dec.{eqb}
+use borrow.Author.Tests.{eqb-true}
+use native.Mathlib.Omega.{arith}
+use Rattle.format.specs.Layout.{Layout}
+use Rattle.format.specs.Alternative.{Alternative, among, told, flagFor}
+use Rattle.format.specs.Format.{Made}
+
+and-right : (a b : Bool) → (a && b) ≡ true → b ≡ true
+and-right true b e = e
+and-right false b e = let z : _≡_ {A = Bool} false true = e in cc
+
+module _ {B : Type 0} {letterOf : B → ℕ} where
+  pub told-tells : (first : Alternative B letterOf) (rest : List (Alternative B letterOf)) (c : ℕ) (b : B)
+      → among first rest c ≡ true → told first rest c .Good b → letterOf b ≡ c
+  told-tells first [] c b h g = first .tells b g ∙ sym (eqb-true c (first .letter) h)
+  told-tells first (x ∷ xs) c b h g = by (x .on && eqb c (x .letter)) refl h g (λ h′ g′. told-tells first xs c b h′ g′)
+    where
+      by : (t : Bool) → (x .on && eqb c (x .letter)) ≡ t → (t || among first xs c) ≡ true
+          → cond t (x .layout .Good b) (told first xs c .Good b)
+          → (among first xs c ≡ true → told first xs c .Good b → letterOf b ≡ c) → letterOf b ≡ c
+      by true e h g more = x .tells b g ∙ sym (eqb-true c (x .letter) (and-right (x .on) (eqb c (x .letter)) e))
+      by false e h g more = more h g
+
+-- A part that stands where the flag has one value, and is absent where it has the other.
+pub flag-tells : {A : Type 0} (P : A → Type 0) (present absent v : ℕ) (o : Option A) (t : Bool) → eqb v present ≡ t → (eqb v present ≡ false → v ≡ absent)
+    → cond t (Made P (λ a. some a) o o) (o ≡ none) → flagFor present absent o ≡ v
+flag-tells P present absent v none true e other g = absurd g
+flag-tells P present absent v (some a) true e other g = sym (eqb-true v present e)
+flag-tells P present absent v o false e other g = rw g (sym (other e))

@@ -1,0 +1,26 @@
+-- Layouts of choices: one of several, told by a letter, and a part that a flag tells to be there or not.
+use mathlib.Core.Path.{_≡_, refl}
+use mathlib.Core.Bool.{true, false}
+use mathlib.Core.Option.{Option, none, some}
+use Prim.Native.Nat.{ℕ}
+use mathlib.Core.List.{List}
+use lib.Dec.{eqb}
+use Rattle.format.specs.Kind.{Kind, Allowed}
+use Rattle.format.specs.Layout.{Layout, field, nothing, either, case, implied}
+use Rattle.format.specs.Alternative.{Alternative, among, told, flagFor}
+use Rattle.format.specs.AlternativeLaws.{told-tells, flag-tells}
+
+-- A field of this kind, whose value tells which alternative follows.
+abbrev pub oneOf : {B : Type 0} {letterOf : B → ℕ} (k : Kind) (first : Alternative B letterOf) (rest : List (Alternative B letterOf))
+    → ((c : ℕ) → Allowed k c → among first rest c ≡ true) → Layout B
+oneOf {letterOf = letterOf} k first rest listed =
+    implied (field k) (told first rest) letterOf (λ c b allowed good. told-tells first rest c b (listed c allowed) good)
+
+-- A flag of this kind, which allows two values, and a part where it has the first of them.
+abbrev pub optional : {A : Type 0} (k : Kind) (present absent : ℕ) → ((v : ℕ) → Allowed k v → eqb v present ≡ false → v ≡ absent) → Layout A → Layout (Option A)
+optional k present absent two f =
+    implied
+    (field k)
+    (λ v. either (eqb v present) (case f (λ a. some a) (λ o. o) (λ a good. refl)) (nothing none))
+    (flagFor present absent)
+    (λ v o allowed good. flag-tells (f .Good) present absent v o (eqb v present) refl (two v allowed) good)

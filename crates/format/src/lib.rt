@@ -1,0 +1,1 @@
+// The format layer: fields, codecs and layouts, with nothing of JDR in it.
