@@ -1,5 +1,5 @@
 -- A good value tells the letter, or the flag, that led to its layout.
-use mathlib.Core.Path.{_≡_, refl, sym, _∙_}
+use mathlib.Core.Path.{_≡_, refl, sym, ap, _∙_}
 use mathlib.Core.Bool.{Bool, true, false, _&&_, _||_, cond}
 use mathlib.Core.Option.{Option, none, some}
 use Prim.Native.Nat.{ℕ}
@@ -33,3 +33,9 @@ pub flag-tells : {A : Type 0} (P : A → Type 0) (present absent v : ℕ) (o : O
 flag-tells P present absent v none true e other g = absurd g
 flag-tells P present absent v (some a) true e other g = sym (eqb-true v present e)
 flag-tells P present absent v o false e other g = rw g (sym (other e))
+
+-- A value of a case has the letter of all that the case makes.
+pub case-tells : {A B : Type 0} (P : A → Type 0) (letterOf : B → ℕ) (letter : ℕ) (make : A → B) → ((a : A) → P a → letterOf (make a) ≡ letter)
+    → (b : B) (o : Option A) → Made P make b o → letterOf b ≡ letter
+case-tells P letterOf letter make same b none g = absurd g
+case-tells P letterOf letter make same b (some a) g = ap letterOf (sym (g .0)) ∙ same a (g .1)

@@ -1,6 +1,6 @@
 -- Layouts of choices: one of several, told by a letter, and a part that a flag tells to be there or not.
-use mathlib.Core.Path.{_≡_, refl}
-use mathlib.Core.Bool.{true, false}
+use mathlib.Core.Path.{_≡_, refl, _∙_}
+use mathlib.Core.Bool.{Bool, true, false}
 use mathlib.Core.Option.{Option, none, some}
 use Prim.Native.Nat.{ℕ}
 use mathlib.Core.List.{List}
@@ -8,7 +8,29 @@ use lib.Dec.{eqb}
 use Rattle.format.specs.Kind.{Kind, Allowed}
 use Rattle.format.specs.Layout.{Layout, field, nothing, either, case, implied}
 use Rattle.format.specs.Alternative.{Alternative, among, told, flagFor}
-use Rattle.format.specs.AlternativeLaws.{told-tells, flag-tells}
+use Rattle.format.specs.AlternativeLaws.{told-tells, flag-tells, case-tells}
+
+-- An alternative: a letter, whether it is on, its layout, and how a value of the case is made of it and taken apart.
+abbrev pub alternative : {A B : Type 0} {letterOf : B → ℕ} (letter : ℕ) (on : Bool) (f : Layout A) (make : A → B) (apart : B → Option A)
+    → ((a : A) → apart (make a) ≡ some a) → ((a : A) → letterOf (make a) ≡ letter) → Alternative B letterOf
+alternative {letterOf = letterOf} letter on f make apart same tells =
+    record {
+      letter = letter;
+      on = on;
+      layout = case f make apart (λ a good. same a);
+      tells = λ b good. case-tells (f .Good) letterOf letter make (λ a g. tells a) b (apart b) good
+    }
+
+-- An alternative for the values of one type, as one for those of a type that has them as a case.
+abbrev pub within : {A B : Type 0} {inner : A → ℕ} {outer : B → ℕ} (make : A → B) (apart : B → Option A)
+    → ((a : A) → apart (make a) ≡ some a) → ((a : A) → outer (make a) ≡ inner a) → Alternative A inner → Alternative B outer
+within {outer = outer} make apart same letters x =
+    record {
+      letter = x .letter;
+      on = x .on;
+      layout = case (x .layout) make apart (λ a good. same a);
+      tells = λ b good. case-tells (x .layout .Good) outer (x .letter) make (λ a g. letters a ∙ x .tells a g) b (apart b) good
+    }
 
 -- A field of this kind, whose value tells which alternative follows.
 abbrev pub oneOf : {B : Type 0} {letterOf : B → ℕ} (k : Kind) (first : Alternative B letterOf) (rest : List (Alternative B letterOf))

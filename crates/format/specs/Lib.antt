@@ -1,6 +1,8 @@
 -- The format layer's definitions and laws: fields, codecs, scripts and layouts. Nothing here knows of JDR.
 pub mod Digits
 pub mod DigitsLaws
+pub mod FloatRange
+pub mod FloatRangeLaws
 pub mod Kind
 pub mod Codec
 pub mod FixedCodec

@@ -1,0 +1,32 @@
+-- Bitmaps (01, 'Object', I).
+use mathlib.Core.Path.{_≡_, refl}
+use mathlib.Core.Option.{Option}
+use Prim.Native.Nat.{ℕ}
+use mathlib.Core.List.{List}
+use Rattle.format.specs.Layout.{Layout, renamed, _&_}
+use Rattle.drawing.specs.String.{String, string}
+use Rattle.drawing.specs.Choices.{ifFlag}
+use Rattle.drawing.specs.Text.{transformation}
+
+-- The LaTeX fields of a bitmap: the link to its file and the command that includes it.
+pub record BitmapLatex : Type 0 where
+  pub link : String
+  pub command : String
+
+pub record Bitmap : Type 0 where
+  pub name : String
+  pub latex : Option BitmapLatex
+  -- the bits of six doubles
+  pub transformation : List ℕ
+
+abbrev pub bitmapLatex : Layout BitmapLatex
+bitmapLatex =
+    renamed (string 0 & string 0) (λ t. record { link = t .0; command = t .1 }) (λ l. (l .link, l .command)) (λ t good. refl)
+
+abbrev pub bitmap : Layout Bitmap
+bitmap =
+    renamed
+    (string 1 & ifFlag bitmapLatex & transformation)
+    (λ t. record { name = t .0; latex = t .1 .0; transformation = t .1 .1 })
+    (λ b. (b .name, (b .latex, b .transformation)))
+    (λ t good. refl)

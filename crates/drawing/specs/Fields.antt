@@ -1,0 +1,138 @@
+-- The kinds of field of a drawing, each with the number that 01 gives to a value that is not allowed ('Fields', 'Numbers given back').
+-- That a field is cut (2) comes before all of these, in reading the field. A field's value is the unsigned number of its bytes.
+use mathlib.Core.Bool.{Bool, true, false, not, _&&_, _||_}
+use mathlib.Core.Option.{Option, none, some}
+use Prim.Native.Nat.{ℕ, _+_, _%_, _^_}
+use Prim.Native.Char.{code}
+use mathlib.Core.List.{List, [], _∷_}
+use lib.Dec.{eqb, leb, ltb}
+use lib.IntN.{ℤ, pos}
+use lib.Signed.{leZ}
+use lib.Ieee.{binary32}
+use mir.Syntax.{w8, w32}
+use mir.Val.{toZ}
+use Rattle.format.specs.Digits.{number}
+use Rattle.format.specs.Kind.{Kind, Shape}
+use Rattle.format.specs.Kind as K
+use Rattle.format.specs.FloatRange.{fromZeroTo, fromZeroBelow}
+use Rattle.drawing.specs.Limits.{lastMinor}
+
+-- ---- faults
+
+-- No fault where the test holds, and this one elsewhere.
+abbrev pub unless : Bool → ℕ → Option ℕ
+unless true n = none
+unless false n = some n
+
+-- The first of two faults.
+abbrev pub first : Option ℕ → Option ℕ → Option ℕ
+first none other = other
+first (some n) other = some n
+
+abbrev pub any : Shape → Kind
+any s = record { shape = s; fault = λ v. none }
+
+-- ---- the head
+
+-- the chars JDR, as one field
+abbrev pub jdr : ℕ
+jdr = number (2 ^ 16) (code "J" ∷ code "D" ∷ code "R" ∷ [])
+
+abbrev pub magic : Kind
+magic = record { shape = K.chars 3; fault = λ v. unless (eqb v jdr) 3 }
+
+abbrev pub versionLength : Kind
+versionLength = record { shape = K.integer; fault = λ v. unless (eqb v 3) 4 }
+
+-- the chars 1.0, as one field; those of 1.m are m more
+abbrev pub versionZero : ℕ
+versionZero = number (2 ^ 16) (code "1" ∷ code "." ∷ code "0" ∷ [])
+
+abbrev pub versionChars : Kind
+versionChars =
+    record { shape = K.chars 3; fault = λ v. unless (leb versionZero v && leb v (versionZero + lastMinor)) 4 }
+
+-- ---- flags, bytes, integers
+
+abbrev pub flag : Kind
+flag = record { shape = K.flag; fault = λ v. unless (ltb v 2) 5 }
+
+-- no flow frame data is carried
+abbrev pub flowFlag : Kind
+flowFlag = record { shape = K.flag; fault = λ v. first (unless (ltb v 2) 5) (unless (eqb v 0) 11) }
+
+-- The signed number is in the range.
+abbrev pub inRange : ℕ → ℕ → ℤ → Bool
+inRange low high z = leZ (pos low) z && leZ z (pos high)
+
+abbrev pub byteIn : ℕ → ℕ → Kind
+byteIn low high = record { shape = K.byte; fault = λ v. unless (inRange low high (toZ w8 v)) 6 }
+
+abbrev pub integer : Kind
+integer = any K.integer
+
+abbrev pub integerIn : ℕ → ℕ → Kind
+integerIn low high = record { shape = K.integer; fault = λ v. unless (inRange low high (toZ w32 v)) 6 }
+
+abbrev pub fontSize : Kind
+fontSize = record { shape = K.integer; fault = λ v. unless (leZ (pos 0) (toZ w32 v)) 6 }
+
+-- ---- counts and lengths
+
+abbrev pub count : ℕ → Kind
+count least = record { shape = K.integer; fault = λ v. unless (leZ (pos least) (toZ w32 v)) 8 }
+
+abbrev pub dashCount : Kind
+dashCount = record { shape = K.integer; fault = λ v. unless (leZ (pos 0) (toZ w32 v) && eqb (v % 2) 0) 8 }
+
+abbrev pub stringLength : ℕ → Kind
+stringLength least = record { shape = K.stringLength; fault = λ v. unless (leZ (pos least) (toZ w32 v)) 8 }
+
+abbrev pub stringChar : Bool → Kind
+stringChar last = any (K.stringChar last)
+
+-- ---- chars
+
+-- a char that the test lets pass
+abbrev pub charWhere : (ℕ → Bool) → Kind
+charWhere allowed = record { shape = K.char; fault = λ v. unless (allowed v) 7 }
+
+abbrev pub oneOfChars : List ℕ → ℕ → Bool
+oneOfChars [] c = false
+oneOfChars (x ∷ xs) c = eqb c x || oneOfChars xs c
+
+-- an object's id: a group's only where it may nest deeper
+abbrev pub objectId : Bool → Kind
+objectId deeper =
+    record {
+      shape = K.char;
+      fault = λ v.
+        first
+        (unless (oneOfChars (code "G" ∷ code "P" ∷ code "T" ∷ code "I" ∷ []) v) 7)
+        (unless (deeper || not (eqb v (code "G"))) 10)
+    }
+
+-- a marker's id: one that is not 0 only where the chain may go on
+abbrev pub markerId : ℕ → Bool → Kind
+markerId high more =
+    record { shape = K.byte; fault = λ v. first (unless (inRange 0 high (toZ w8 v)) 6) (unless (more || eqb v 0) 10) }
+
+-- ---- floats and doubles
+
+abbrev pub float : Kind
+float = any K.float
+
+abbrev pub double : Kind
+double = any K.double
+
+-- a paint's component, from 0 to 1
+abbrev pub component : Kind
+component = record { shape = K.float; fault = λ v. unless (fromZeroTo binary32 1 v) 9 }
+
+-- from 0 up to but not 360
+abbrev pub hue : Kind
+hue = record { shape = K.float; fault = λ v. unless (fromZeroBelow binary32 360 v) 9 }
+
+-- a coordinate with the very bits of another
+abbrev pub joined : ℕ → Kind
+joined bits = record { shape = K.double; fault = λ v. unless (eqb v bits) 12 }

@@ -1,0 +1,76 @@
+-- One marker (01, 'Line style'). Chains of composite markers are in MarkerChain.
+use mathlib.Core.Path.{_≡_, refl}
+use mathlib.Core.Bool.{Bool, true, false, cond, _&&_}
+use mathlib.Core.Option.{Option, none, some}
+use Prim.Native.Nat.{ℕ, zero, suc}
+use mathlib.Core.List.{List, [], _∷_}
+use lib.Dec.{leb, eqb}
+use Rattle.format.specs.Layout.{Layout, field, either, when, renamed, _&_, _▸_}
+use Rattle.drawing.specs.Fields.{flag, byteIn, float}
+use Rattle.drawing.specs.Choices.{ifFlag, unlessFlag}
+use Rattle.drawing.specs.Paint.{Plain, transparent, plainPaint}
+
+-- A marker of any version; a field that its version does not have is 0, none or transparent.
+pub record Marker : Type 0 where
+  pub id : ℕ
+  pub size : ℕ
+  -- in 1.0 alone
+  pub double : ℕ
+  pub repeat : ℕ
+  pub reversed : ℕ
+  -- none for auto-orient
+  pub angle : Option ℕ
+  pub paint : Plain
+  pub overlay : ℕ
+  pub offset : Option ℕ
+  pub repeatOffset : Option ℕ
+
+-- The highest marker id.
+abbrev pub lastMarker : ℕ → ℕ
+lastMarker v = cond (leb 4 v) 79 (cond (leb 1 v) 21 7)
+
+-- What follows an id that is not 0, in 1.0.
+abbrev pub arrow : ℕ → Layout Marker
+arrow id =
+    renamed
+    (field float & field flag & field flag)
+    (λ t.
+      record {
+        id = id;
+        size = t .0;
+        double = t .1 .0;
+        repeat = 0;
+        reversed = t .1 .1;
+        angle = none;
+        paint = transparent;
+        overlay = 0;
+        offset = none;
+        repeatOffset = none
+      })
+    (λ m. (m .size, (m .double, m .reversed)))
+    (λ t good. refl)
+
+-- What follows an id that is not 0, from 1.1, up to the composite marker.
+abbrev pub marker : ℕ → ℕ → Layout Marker
+marker v id =
+    renamed
+    (field float & field (byteIn 1 3) & field flag & unlessFlag (field float) & plainPaint v
+    & (field flag ▸ λ overlay. when (leb 4 v && eqb overlay 0) (ifFlag (field float) & ifFlag (field float)) (none, none)))
+    (λ t.
+      record {
+        id = id;
+        size = t .0;
+        double = 0;
+        repeat = t .1 .0;
+        reversed = t .1 .1 .0;
+        angle = t .1 .1 .1 .0;
+        paint = t .1 .1 .1 .1 .0;
+        overlay = t .1 .1 .1 .1 .1 .0;
+        offset = t .1 .1 .1 .1 .1 .1 .0;
+        repeatOffset = t .1 .1 .1 .1 .1 .1 .1
+      })
+    (λ m. (m .size, (m .repeat, (m .reversed, (m .angle, (m .paint, (m .overlay, (m .offset, m .repeatOffset))))))))
+    (λ t good. refl)
+
+abbrev pub markerBody : ℕ → ℕ → Layout Marker
+markerBody v id = either (leb 1 v) (marker v id) (arrow id)

@@ -1,0 +1,88 @@
+-- Paints (01, 'Paint'): plain ones, and gradients of two plain ones.
+use mathlib.Core.Path.{_≡_, refl}
+use mathlib.Core.Bool.{Bool, true, false}
+use mathlib.Core.Option.{Option, none, some}
+use Prim.Native.Nat.{ℕ}
+use Prim.Native.Char.{code}
+use mathlib.Core.List.{List, [], _∷_, _++_, map}
+use lib.Dec.{leb}
+use Rattle.format.specs.Layout.{Layout, field, nothing, case, _&_}
+use Rattle.format.specs.Alternative.{Alternative}
+use Rattle.format.specs.Choice.{alternative, within}
+use Rattle.drawing.specs.Fields.{component, hue, integerIn}
+use Rattle.drawing.specs.Choices.{byChar}
+
+-- The components are the bits of floats.
+pub data Plain : Type 0 where
+  transparent : Plain
+  rgb : (red green blue alpha : ℕ) → Plain
+  cmyk : (cyan magenta yellow black alpha : ℕ) → Plain
+  grey : (grey alpha : ℕ) → Plain
+  hsb : (hue saturation brightness alpha : ℕ) → Plain
+
+pub data Paint : Type 0 where
+  plain : Plain → Paint
+  linear : (from to : Plain) (direction : ℕ) → Paint
+  radial : (from to : Plain) (location : ℕ) → Paint
+
+abbrev pub plainLetter : Plain → ℕ
+plainLetter transparent = code "T"
+plainLetter (rgb r g b a) = code "R"
+plainLetter (cmyk c m y k a) = code "C"
+plainLetter (grey g a) = code "Y"
+plainLetter (hsb h s b a) = code "S"
+
+abbrev pub paintLetter : Paint → ℕ
+paintLetter (plain p) = plainLetter p
+paintLetter (linear f t d) = code "G"
+paintLetter (radial f t l) = code "D"
+
+-- The components in file order, with 0 for those that a paint does not have.
+abbrev pub components : Plain → ℕ × (ℕ × (ℕ × (ℕ × ℕ)))
+components transparent = (0, (0, (0, (0, 0))))
+components (rgb r g b a) = (r, (g, (b, (a, 0))))
+components (cmyk c m y k a) = (c, (m, (y, (k, a))))
+components (grey g a) = (g, (a, (0, (0, 0))))
+components (hsb h s b a) = (h, (s, (b, (a, 0))))
+
+abbrev pub four : Plain → Option (ℕ × (ℕ × (ℕ × ℕ)))
+four p = let c = components p in some (c .0, (c .1 .0, (c .1 .1 .0, c .1 .1 .1 .0)))
+
+abbrev pub plainOf : Paint → Option Plain
+plainOf (plain p) = some p
+plainOf (linear f t d) = none
+plainOf (radial f t l) = none
+
+abbrev pub gradientOf : Paint → Option (Plain × (Plain × ℕ))
+gradientOf (plain p) = none
+gradientOf (linear f t d) = some (f, (t, d))
+gradientOf (radial f t l) = some (f, (t, l))
+
+-- ---- the layout
+
+abbrev pub transparentCase : Alternative Plain plainLetter
+transparentCase =
+    alternative (code "T") true (nothing {A = Unit {0}} tt) (λ u. transparent) (λ p. some tt) (λ u. refl) (λ u. refl)
+
+abbrev pub plainCases : ℕ → List (Alternative Plain plainLetter)
+plainCases v =
+    alternative (code "R") true (field component & field component & field component & field component) (λ c. rgb (c .0) (c .1 .0) (c .1 .1 .0) (c .1 .1 .1)) four (λ c. refl) (λ c. refl)
+    ∷ alternative (code "C") true (field component & field component & field component & field component & field component) (λ c. cmyk (c .0) (c .1 .0) (c .1 .1 .0) (c .1 .1 .1 .0) (c .1 .1 .1 .1)) (λ p. some (components p)) (λ c. refl) (λ c. refl)
+    ∷ alternative (code "Y") (leb 4 v) (field component & field component) (λ c. grey (c .0) (c .1)) (λ p. some (components p .0, components p .1 .0)) (λ c. refl) (λ c. refl)
+    ∷ alternative (code "S") (leb 4 v) (field hue & field component & field component & field component) (λ c. hsb (c .0) (c .1 .0) (c .1 .1 .0) (c .1 .1 .1)) four (λ c. refl) (λ c. refl)
+    ∷ []
+
+abbrev pub plainPaint : ℕ → Layout Plain
+plainPaint v = byChar plainLetter transparentCase (plainCases v)
+
+-- A case of a plain paint, as a case of a paint.
+abbrev pub asPaint : Alternative Plain plainLetter → Alternative Paint paintLetter
+asPaint = within plain plainOf (λ p. refl) (λ p. refl)
+
+abbrev pub paint : ℕ → Layout Paint
+paint v =
+    byChar paintLetter (asPaint transparentCase)
+    (map asPaint (plainCases v)
+    ++ (alternative (code "G") true (plainPaint v & plainPaint v & field (integerIn 0 7)) (λ g. linear (g .0) (g .1 .0) (g .1 .1)) gradientOf (λ g. refl) (λ g. refl)
+    ∷ alternative (code "D") (leb 3 v) (plainPaint v & plainPaint v & field (integerIn 0 8)) (λ g. radial (g .0) (g .1 .0) (g .1 .1)) gradientOf (λ g. refl) (λ g. refl)
+    ∷ []))

@@ -1,0 +1,111 @@
+-- Paths and their segments (01, 'Object', P).
+use mathlib.Core.Path.{_≡_, refl}
+use mathlib.Core.Bool.{Bool, true, false}
+use mathlib.Core.Option.{Option, none, some}
+use Prim.Native.Nat.{ℕ}
+use Prim.Native.Char.{code}
+use mathlib.Core.List.{List, [], _∷_}
+use lib.ListN.{length}
+use lib.Dec.{leb, ltb}
+use Rattle.format.specs.Layout.{Layout, field, when, threaded, implied, renamed, _&_}
+use Rattle.format.specs.FormatLaws.{each-length}
+use Rattle.format.specs.Choice.{alternative}
+use Rattle.drawing.specs.Fields.{double, joined, count, charWhere, oneOfChars}
+use Rattle.drawing.specs.Choices.{byChar}
+use Rattle.drawing.specs.Paint.{Paint, paint}
+use Rattle.drawing.specs.LineStyle.{LineStyle, lineStyle}
+
+-- The coordinates are the bits of doubles.
+pub record Point : Type 0 where
+  pub x : ℕ
+  pub y : ℕ
+
+-- A segment with its own start point, which is a field below 1.3 and the origin from 1.3 on.
+pub data Segment : Type 0 where
+  curve : (start first second end : Point) → Segment
+  line : (start end : Point) → Segment
+  move : (start end : Point) → Segment
+
+pub record Path : Type 0 where
+  pub linePaint : Paint
+  pub fillPaint : Paint
+  pub style : LineStyle
+  -- the char O or C
+  pub closed : ℕ
+  -- a field from 1.3 on; the origin below
+  pub start : Point
+  pub segments : List Segment
+
+abbrev pub origin : Point
+origin = record { x = 0; y = 0 }
+
+abbrev pub endOf : Segment → Point
+endOf (curve s p q e) = e
+endOf (line s e) = e
+endOf (move s e) = e
+
+abbrev pub segmentLetter : Segment → ℕ
+segmentLetter (curve s p q e) = code "B"
+segmentLetter (line s e) = code "L"
+segmentLetter (move s e) = code "M"
+
+abbrev pub curvePoints : Segment → Option (Point × (Point × (Point × Point)))
+curvePoints (curve s p q e) = some (s, (p, (q, e)))
+curvePoints (line s e) = none
+curvePoints (move s e) = none
+
+abbrev pub linePoints : Segment → Option (Point × Point)
+linePoints (curve s p q e) = none
+linePoints (line s e) = some (s, e)
+linePoints (move s e) = some (s, e)
+
+-- ---- the layout
+
+abbrev pub twoDoubles : Layout ℕ → Layout ℕ → Layout Point
+twoDoubles x y = renamed (x & y) (λ t. record { x = t .0; y = t .1 }) (λ p. (p .x, p .y)) (λ t good. refl)
+
+abbrev pub point : Layout Point
+point = twoDoubles (field double) (field double)
+
+-- A start point: free, or with the very bits of the end point of the segment before.
+abbrev pub joinedPoint : Option Point → Layout Point
+joinedPoint none = point
+joinedPoint (some p) = twoDoubles (field (joined (p .x))) (field (joined (p .y)))
+
+-- A segment behind one that ends at this point, or the first one.
+abbrev pub segment : ℕ → Option Point → Layout Segment
+segment v before =
+    let start = when (ltb v 3) (joinedPoint before) origin in
+    byChar segmentLetter
+    (alternative (code "B") true (start & point & point & point) (λ t. curve (t .0) (t .1 .0) (t .1 .1 .0) (t .1 .1 .1)) curvePoints (λ t. refl) (λ t. refl))
+    (alternative (code "L") true (start & point) (λ t. line (t .0) (t .1)) linePoints (λ t. refl) (λ t. refl)
+    ∷ alternative (code "M") true (start & point) (λ t. move (t .0) (t .1)) linePoints (λ t. refl) (λ t. refl)
+    ∷ [])
+
+abbrev pub segments : ℕ → ℕ → Layout (List Segment)
+segments v n = threaded n (segment v) (λ before s. some (endOf s)) none
+
+-- A count, the start point from 1.3 on, and as many segments.
+abbrev pub outline : ℕ → Layout (Point × List Segment)
+outline v =
+    implied
+    (field (count 1))
+    (λ n. when (leb 3 v) point origin & segments v n)
+    (λ t. length (t .1))
+    (λ n t allowed good. each-length (λ before. segment v before .Good) (λ before s. some (endOf s)) n none (t .1) (good .1))
+
+abbrev pub path : ℕ → Layout Path
+path v =
+    renamed
+    (paint v & paint v & lineStyle v & field (charWhere (oneOfChars (code "O" ∷ code "C" ∷ []))) & outline v)
+    (λ t.
+      record {
+        linePaint = t .0;
+        fillPaint = t .1 .0;
+        style = t .1 .1 .0;
+        closed = t .1 .1 .1 .0;
+        start = t .1 .1 .1 .1 .0;
+        segments = t .1 .1 .1 .1 .1
+      })
+    (λ p. (p .linePaint, (p .fillPaint, (p .style, (p .closed, (p .start, p .segments))))))
+    (λ t good. refl)

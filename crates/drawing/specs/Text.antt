@@ -1,0 +1,69 @@
+-- Texts (01, 'Object', T), and the transformations that texts and bitmaps have.
+use mathlib.Core.Path.{_≡_, refl}
+use mathlib.Core.Option.{Option}
+use Prim.Native.Nat.{ℕ}
+use mathlib.Core.List.{List}
+use Rattle.format.specs.Layout.{Layout, field, repeat, renamed, _&_}
+use Rattle.drawing.specs.Fields.{double, byteIn, fontSize}
+use Rattle.drawing.specs.String.{String, string}
+use Rattle.drawing.specs.Choices.{ifFlag}
+use Rattle.drawing.specs.Paint.{Paint, paint}
+
+-- The LaTeX fields of a text.
+pub record Latex : Type 0 where
+  pub family : String
+  pub series : String
+  pub shape : String
+  pub size : String
+  pub horizontal : ℕ
+  pub vertical : ℕ
+  pub alternative : String
+
+pub record Text : Type 0 where
+  pub family : String
+  pub shape : ℕ
+  pub series : ℕ
+  pub size : ℕ
+  -- the bits of six doubles
+  pub transformation : List ℕ
+  pub latex : Option Latex
+  pub paint : Paint
+  pub text : String
+
+abbrev pub transformation : Layout (List ℕ)
+transformation = repeat 6 (field double)
+
+abbrev pub latex : Layout Latex
+latex =
+    renamed
+    (string 0 & string 0 & string 0 & string 0 & field (byteIn 0 2) & field (byteIn 0 3) & string 0)
+    (λ t.
+      record {
+        family = t .0;
+        series = t .1 .0;
+        shape = t .1 .1 .0;
+        size = t .1 .1 .1 .0;
+        horizontal = t .1 .1 .1 .1 .0;
+        vertical = t .1 .1 .1 .1 .1 .0;
+        alternative = t .1 .1 .1 .1 .1 .1
+      })
+    (λ l. (l .family, (l .series, (l .shape, (l .size, (l .horizontal, (l .vertical, l .alternative)))))))
+    (λ t good. refl)
+
+abbrev pub text : ℕ → Layout Text
+text v =
+    renamed
+    (string 0 & field (byteIn 0 1) & field (byteIn 0 1) & field fontSize & transformation & ifFlag latex & paint v & string 1)
+    (λ t.
+      record {
+        family = t .0;
+        shape = t .1 .0;
+        series = t .1 .1 .0;
+        size = t .1 .1 .1 .0;
+        transformation = t .1 .1 .1 .1 .0;
+        latex = t .1 .1 .1 .1 .1 .0;
+        paint = t .1 .1 .1 .1 .1 .1 .0;
+        text = t .1 .1 .1 .1 .1 .1 .1
+      })
+    (λ x. (x .family, (x .shape, (x .series, (x .size, (x .transformation, (x .latex, (x .paint, x .text))))))))
+    (λ t good. refl)
