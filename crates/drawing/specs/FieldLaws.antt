@@ -2,7 +2,7 @@
 use mathlib.Core.Path.{_≡_, refl, sym, ap, _∙_}
 use mathlib.Core.Bool.{Bool, true, false, not, _&&_, _||_}
 use mathlib.Core.Option.{Option, none, some}
-use Prim.Native.Nat.{ℕ, suc, _<_, _≤_, _-_, _^_}
+use Prim.Native.Nat.{ℕ, suc, _<_, _≤_, _+_, _-_, _^_}
 use lib.Dec.{eqb, leb, ltb}
 use borrow.Author.Tests.{eqb-true, eqb-false, ltb-true, leb-true, eq-eqb}
 use native.Mathlib.Omega.{arith}
@@ -10,7 +10,9 @@ use Rattle.format.specs.Kind.{Kind, Allowed}
 use lib.IntN.{ℤ, pos, negsuc}
 use mir.Syntax.{Width, w8, w32}
 use mir.Val.{toZ, sel, bits, hbits}
-use Rattle.drawing.specs.Fields.{unless, first, magic, jdr, versionLength, flag, flowFlag, byteIn, inRange, charWhere}
+use Rattle.drawing.specs.Fields.{unless, first, magic, jdr, versionLength, flag, flowFlag, byteIn, inRange, charWhere, versionChars, versionZero}
+use Rattle.drawing.specs.Limits.{lastMinor}
+use Prim.Native.Char.{code}
 
 pub unless-none : (t : Bool) (n : ℕ) → unless t n ≡ none → t ≡ true
 unless-none true n e = refl
@@ -55,3 +57,13 @@ in-range w low high v e = by (ltb v (2 ^ hbits w)) e
 
 pub byte-in : (low high v : ℕ) → Allowed (byteIn low high) v → (low ≤ v) × (v ≤ high)
 byte-in low high v a = in-range w8 low high v (unless-none (inRange low high (toZ w8 v)) 6 (a .faultless))
+
+pub outer-only : (v : ℕ) → Allowed (charWhere (λ c. eqb c (code "G"))) v → v ≡ code "G"
+outer-only v a = eqb-true v (code "G") (char-passes (λ c. eqb c (code "G")) v a)
+
+-- The version's chars, taken as the minor number, come back.
+pub version-back : (c : ℕ) → Allowed versionChars c → versionZero + (c - versionZero) ≡ c
+version-back c a =
+    let b = and-both (leb versionZero c) (leb c (versionZero + lastMinor)) (unless-none (leb versionZero c && leb c (versionZero + lastMinor)) 4 (a .faultless)) in
+    let h : versionZero ≤ c = leb-true versionZero c (b .0) in
+    omega arith

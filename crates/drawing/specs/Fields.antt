@@ -107,9 +107,9 @@ objectId deeper =
     record {
       shape = K.char;
       fault = λ v.
-        first
-        (unless (oneOfChars (code "G" ∷ code "P" ∷ code "T" ∷ code "I" ∷ []) v) 7)
-        (unless (deeper || not (eqb v (code "G"))) 10)
+          first
+          (unless (oneOfChars (code "G" ∷ code "P" ∷ code "T" ∷ code "I" ∷ []) v) 7)
+          (unless (deeper || not (eqb v (code "G"))) 10);
     }
 
 -- a marker's id: one that is not 0 only where the chain may go on

@@ -14,3 +14,10 @@ pub mod Text
 pub mod Bitmap
 pub mod SettingsLaws
 pub mod Settings
+pub mod Object
+pub mod ObjectLaws
+pub mod ObjectLayout
+pub mod Drawing
+pub mod Table
+pub mod TableDrawing
+pub mod Try

@@ -22,12 +22,12 @@ chain v (suc left) =
     implied
     (field (markerId (lastMarker v) true))
     (λ id.
-      either (eqb id 0)
-      (nothing [])
-      (case (markerBody v id & when (leb 1 v) (chain v left) []) (λ t. t .0 ∷ t .1) headAndTail (λ t good. refl)))
+    either (eqb id 0)
+    (nothing [])
+    (case (markerBody v id & when (leb 1 v) (chain v left) []) (λ t. t .0 ∷ t .1) headAndTail (λ t good. refl)))
     firstId
     (λ id ms allowed good.
-      chain-id ((markerBody v id & when (leb 1 v) (chain v left) []) .Good) (λ t. t .0 ∷ t .1) id (λ t g. body-id v id (t .0) (g .0)) ms (headAndTail ms) (eqb id 0) refl good)
+    chain-id ((markerBody v id & when (leb 1 v) (chain v left) []) .Good) (λ t. t .0 ∷ t .1) id (λ t g. body-id v id (t .0) (g .0)) ms (headAndTail ms) (eqb id 0) refl good)
 
 abbrev pub markers : ℕ → Layout (List Marker)
 markers v = chain v markerLimit

@@ -99,13 +99,13 @@ path v =
     renamed
     (paint v & paint v & lineStyle v & field (charWhere (oneOfChars (code "O" ∷ code "C" ∷ []))) & outline v)
     (λ t.
-      record {
-        linePaint = t .0;
-        fillPaint = t .1 .0;
-        style = t .1 .1 .0;
-        closed = t .1 .1 .1 .0;
-        start = t .1 .1 .1 .1 .0;
-        segments = t .1 .1 .1 .1 .1
-      })
+    record {
+      linePaint = t .0;
+      fillPaint = t .1 .0;
+      style = t .1 .1 .0;
+      closed = t .1 .1 .1 .0;
+      start = t .1 .1 .1 .1 .0;
+      segments = t .1 .1 .1 .1 .1;
+    })
     (λ p. (p .linePaint, (p .fillPaint, (p .style, (p .closed, (p .start, p .segments))))))
     (λ t good. refl)

@@ -66,17 +66,17 @@ allSettings v =
     renamed
     (field flag & field flag & field flag & field (integerIn 0 7) & field integer & paper v & field (byteIn 0 3) & field integer & field integer)
     (λ t.
-      record {
-        grid = t .0;
-        lock = t .1 .0;
-        rulers = t .1 .1 .0;
-        tool = t .1 .1 .1 .0;
-        normalSize = t .1 .1 .1 .1 .0;
-        paper = t .1 .1 .1 .1 .1 .0;
-        unit = t .1 .1 .1 .1 .1 .1 .0;
-        major = t .1 .1 .1 .1 .1 .1 .1 .0;
-        minor = t .1 .1 .1 .1 .1 .1 .1 .1
-      })
+    record {
+      grid = t .0;
+      lock = t .1 .0;
+      rulers = t .1 .1 .0;
+      tool = t .1 .1 .1 .0;
+      normalSize = t .1 .1 .1 .1 .0;
+      paper = t .1 .1 .1 .1 .1 .0;
+      unit = t .1 .1 .1 .1 .1 .1 .0;
+      major = t .1 .1 .1 .1 .1 .1 .1 .0;
+      minor = t .1 .1 .1 .1 .1 .1 .1 .1;
+    })
     (λ s. (s .grid, (s .lock, (s .rulers, (s .tool, (s .normalSize, (s .paper, (s .unit, (s .major, s .minor)))))))))
     (λ t good. refl)
 

@@ -18,7 +18,7 @@ alternative {letterOf = letterOf} letter on f make apart same tells =
       letter = letter;
       on = on;
       layout = case f make apart (λ a good. same a);
-      tells = λ b good. case-tells (f .Good) letterOf letter make (λ a g. tells a) b (apart b) good
+      tells = λ b good. case-tells (f .Good) letterOf letter make (λ a g. tells a) b (apart b) good;
     }
 
 -- An alternative for the values of one type, as one for those of a type that has them as a case.
@@ -29,7 +29,7 @@ within {outer = outer} make apart same letters x =
       letter = x .letter;
       on = x .on;
       layout = case (x .layout) make apart (λ a good. same a);
-      tells = λ b good. case-tells (x .layout .Good) outer (x .letter) make (λ a g. letters a ∙ x .tells a g) b (apart b) good
+      tells = λ b good. case-tells (x .layout .Good) outer (x .letter) make (λ a g. letters a ∙ x .tells a g) b (apart b) good;
     }
 
 -- A field of this kind, whose value tells which alternative follows.

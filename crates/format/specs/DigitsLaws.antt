@@ -1,9 +1,9 @@
 -- Digits and numbers are inverse to one another, for any base and any count of digits.
-use mathlib.Core.Path.{_≡_, refl, sym, ap, ap₂, _∙_}
-use Prim.Native.Nat.{ℕ, zero, suc, _+_, _*_, _/_, _%_, _^_, _<_, _≤_}
+use mathlib.Core.Path.{_≡_, refl, sym, ap, _∙_}
+use Prim.Native.Nat.{ℕ, zero, suc, _+_, _*_, _/_, _%_, _^_, _<_}
 use mathlib.Core.List.{List, [], _∷_}
 use lib.ListN.{length}
-use lib.Arith.{digits-lt, digits-div, digits-mod, mod-mul}
+use lib.Arith.{digits-lt, digits-div, mod-mul}
 use native.Mathlib.Omega.{arith}
 use native.Mathlib.Nat as Nat
 use Rattle.format.specs.Digits.{Below, number, digits}
@@ -34,7 +34,7 @@ number-below base [] b = rw Nat.pow-zero (omega arith)
 number-below base (d ∷ ds) b = rw Nat.pow-succ' (digits-lt (b .0) (number-below base ds (b .1)))
 
 -- Digits above the last n do not count.
-digits-above : (base n q v : ℕ) → 0 < base → digits base n (q * base ^ n + v) ≡ digits base n v
+pub digits-above : (base n q v : ℕ) → 0 < base → digits base n (q * base ^ n + v) ≡ digits base n v
 digits-above base zero q v h = refl
 digits-above base (suc n) q v h =
     rw (Nat.pow-succ' base n, ← (Nat.mul-assoc q base (base ^ n)), digits-above base n (q * base) v h, Nat.mul-add-div-right (power-positive base n h) (q * base) v, Nat.mul-add-mod-self-right q base (v / base ^ n))

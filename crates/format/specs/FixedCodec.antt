@@ -75,7 +75,7 @@ fixed F =
       Units = Below (F .base);
       Spells = λ k v us rest. SpellsFixed F k v us;
       Stops = λ k us n at. (at ≡ us) × (Cut F k us n ⊎ Faulty F k us n);
-      read = λ k us. readCut F k us (cut (F .width (k .shape)) us)
+      read = λ k us. readCut F k us (cut (F .width (k .shape)) us);
     }
 
 abbrev pub spellFixed : Fixed → Spelling
@@ -96,7 +96,7 @@ wordFields =
       base = 2 ^ 32;
       width = λ s. (size s + 3) / 4;
       meaning = λ s v. cond (ltb v (256 ^ size s)) (some v) none;
-      meaningless = 16
+      meaningless = 16;
     }
 
 abbrev pub words : Codec

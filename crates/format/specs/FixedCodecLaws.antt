@@ -89,8 +89,10 @@ module _ (F : Fixed) (S : Sensible F) where
     where
       below : Below (F .base) front
       below = below-front (F .base) front rest (rw e at b)
+
       fits : v < 256 ^ size (k .shape)
       fits = S .fits (k .shape) (number (F .base) front) v (rw (← l) (number-below (F .base) front below)) h
+
       judged-so : (f : Option ℕ) → k .fault v ≡ f → Explained (fixed F) k us (conclude (judged v f) us rest)
       judged-so none q = (front, e, record { long = l; below = below; means = h }, record { fits = fits; faultless = q })
       judged-so (some n) q = (refl, inr (record { front = front; rest = rest; split = e; long = l; says = rw (h, q) }))
@@ -106,7 +108,7 @@ module _ (F : Fixed) (S : Sensible F) where
         reads = λ k v us rest p a. fixed-reads k v us rest p a;
         stops = λ k us n at p. rw (p .0) (fixed-stops k us n (p .1));
         explains = λ k us b. explain-cut k us b (cut (F .width (k .shape)) us) (cut-says (F .width (k .shape)) us);
-        behind = λ us rest b. below-behind (F .base) us rest b
+        behind = λ us rest b. below-behind (F .base) us rest b;
       }
 
   spell-fixed : (k : Kind) (v : ℕ) → Allowed k v → SpellsFixed F k v (digits (F .base) (F .width (k .shape)) v)
@@ -115,7 +117,7 @@ module _ (F : Fixed) (S : Sensible F) where
       record {
         long = length-digits (F .base) (F .width (k .shape)) v;
         below = below-digits (F .base) (F .width (k .shape)) v (S .positive);
-        means = rw (number-digits (F .base) (F .width (k .shape)) v (S .positive) small) (S .plain (k .shape) v (a .fits))
+        means = rw (number-digits (F .base) (F .width (k .shape)) v (S .positive) small) (S .plain (k .shape) v (a .fits));
       }
 
   pub fixed-writes : Writes (fixed F) (spellFixed F)
@@ -132,7 +134,7 @@ bytes-sensible =
       positive = omega arith;
       fits = λ s x v h e. let q : x ≡ v = cc in rw (← q) h;
       plain = λ s v h. refl;
-      room = λ s. Nat.le-refl (256 ^ size s)
+      room = λ s. Nat.le-refl (256 ^ size s);
     }
 
 pub bytes-literal : Literal byteFields
@@ -160,5 +162,5 @@ words-sensible =
       positive = omega arith;
       fits = λ s x v h e. let w = within s x v (ltb x (256 ^ size s)) refl e in rw (← (w .0)) (w .1);
       plain = λ s v h. rw (lt-ltb v (256 ^ size s) h);
-      room = λ s. words-hold (size s)
+      room = λ s. words-hold (size s);
     }

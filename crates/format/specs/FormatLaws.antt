@@ -72,7 +72,7 @@ taken-many P fs next sc h (suc n) s then all r e =
       good = (head .good, more .good);
       behind = more .behind;
       split = rw (append-assoc, ← (more .split)) (head .split);
-      ends = more .ends
+      ends = more .ends;
     }
 
 taken-pair : {A B R : Type 0} (P : A → Type 0) (Q : A → B → Type 0) (fs : A → List Field) (hs : A → B → List Field)
@@ -87,7 +87,7 @@ taken-pair P Q fs hs sc then all r head h =
       good = (head .good, more .good);
       behind = more .behind;
       split = rw (append-assoc, ← (more .split)) (head .split);
-      ends = more .ends
+      ends = more .ends;
     }
 
 taken-lead : {A B R : Type 0} (P : A → Type 0) (Q : A → B → Type 0) (fs : A → List Field) (hs : A → B → List Field)
@@ -104,7 +104,7 @@ taken-lead P Q fs hs sc told same then all r head h =
       good = rw e (head .good, more .good);
       behind = more .behind;
       split = rw (e, append-assoc, ← (more .split)) (head .split);
-      ends = more .ends
+      ends = more .ends;
     }
 
 taken-via : {A B R : Type 0} (P : A → Type 0) (fs : A → List Field) (make : A → B) (apart : B → Option A)
@@ -118,7 +118,7 @@ taken-via P fs make apart same then all r head =
       good = rw (same (head .value) (head .good)) (refl, head .good);
       behind = head .behind;
       split = rw (same (head .value) (head .good)) (head .split);
-      ends = head .ends
+      ends = head .ends;
     }
 
 pub taken : {A R : Type 0} {P : A → Type 0} (f : Format A P) (then : A → Script R) (all : List Field) (r : R) → Ends (script f then) all r → Taken P (λ a. fields f a) then all r

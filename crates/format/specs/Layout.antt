@@ -13,7 +13,6 @@ use Rattle.format.specs.FormatLaws.{each-length}
 
 infixr 30 _&_
 infixr 30 _▸_
-
 pub record Layout (A : Type 0) : Type 1 where
   pub Good : A → Type 0
   pub format : Format A Good
@@ -60,7 +59,7 @@ abbrev pub renamed : {A B : Type 0} (f : Layout A) (make : A → B) (apart : B �
 renamed f make apart same =
     record {
       Good = λ b. (make (apart b) ≡ b) × f .Good (apart b);
-      format = via (f .format) make (λ b. some (apart b)) (λ a good. ap {B = Option _} some (same a good))
+      format = via (f .format) make (λ b. some (apart b)) (λ a good. ap {B = Option _} some (same a good));
     }
 
 -- The same fields for values of one case of a type of several.
@@ -73,7 +72,7 @@ abbrev pub implied : {A B : Type 0} (f : Layout A) (g : A → Layout B) (told : 
 implied f g told same =
     record {
       Good = λ b. f .Good (told b) × g (told b) .Good b;
-      format = lead (f .format) (λ a. g a .format) told same
+      format = lead (f .format) (λ a. g a .format) told same;
     }
 
 -- A count, and as many elements.

@@ -19,12 +19,13 @@ spelled-all C spell w (end x) [] r rest e = refl
 spelled-all C spell w (end x) (f ∷ fs) r rest e = absurd e
 spelled-all C spell w (ask k next) [] r rest e = absurd e
 spelled-all C spell w (ask k next) (f ∷ fs) r rest e =
-    let a : Allowed (f .kind) (f .value) = rw (e .0) (e .1) in
-    ( spell (f .kind) (f .value)
-    , spellAll spell fs
-    , refl
-    , w (f .kind) (f .value) (spellAll spell fs ++ rest) a
-    , spelled-all C spell w (next (f .value)) fs r rest (e .2) )
+    let a : Allowed (f .kind) (f .value) = rw (e .0) (e .1) in (
+      spell (f .kind) (f .value),
+      spellAll spell fs,
+      refl,
+      w (f .kind) (f .value) (spellAll spell fs ++ rest) a,
+      spelled-all C spell w (next (f .value)) fs r rest (e .2),
+    )
 
 -- Where a value has one spelling only, units that spell fields are the written ones.
 pub spelled-strict : (C : Codec) (spell : Spelling) → Strict C spell → (fs : List Field) (us rest : List ℕ) → Spelled C fs us rest → us ≡ spellAll spell fs
@@ -67,7 +68,7 @@ module _ {A : Type 0} (C : Codec) (L : Lawful C) (F : Layout A) where
         good = rw (last .1) at (t .good);
         front = w .front;
         split = w .split;
-        spelled = rw same at (w .spelled)
+        spelled = rw same at (w .spelled);
       }
 
   pub sound : (us : List ℕ) → C .Units us → (a : A) (rest : List ℕ) → parse C F us ≡ found a rest → Held us a rest
@@ -75,9 +76,10 @@ module _ {A : Type 0} (C : Codec) (L : Lawful C) (F : Layout A) where
 
   -- A refusal, stated without parsing: good fields, and then one that is cut or at fault.
   pub refusal : (us : List ℕ) → C .Units us → (n : ℕ) (at : List ℕ) → (parse C F us ≡ refused n at) ↔ Halt C (script (F .format) (λ a. end a)) us n at
-  refusal us u n at =
-      ( λ e. subst (Accounted C (script (F .format) (λ a. end a)) us) e (run-accounts C L (script (F .format) (λ a. end a)) us u)
-      , λ h. rw (h .split) (run-asks C L (script (F .format) (λ a. end a)) (h .fields) (h .kind) (h .front) (h .back) n at (h .asks) (h .spelled) (h .stops)) )
+  refusal us u n at = (
+    λ e. subst (Accounted C (script (F .format) (λ a. end a)) us) e (run-accounts C L (script (F .format) (λ a. end a)) us u),
+    λ h. rw (h .split) (run-asks C L (script (F .format) (λ a. end a)) (h .fields) (h .kind) (h .front) (h .back) n at (h .asks) (h .spelled) (h .stops)),
+  )
 
   module _ (spell : Spelling) (w : Writes C spell) (s : Strict C spell) where
     -- What parses was good, and encodes to what was there.

@@ -16,3 +16,5 @@ pub mod Alternative
 pub mod AlternativeLaws
 pub mod Choice
 pub mod LayoutLaws
+pub mod LeafLaws
+pub mod SignedExamples

@@ -60,7 +60,7 @@ module _ {R : Type 0} (C : Codec) (L : Lawful C) where
         front = front ++ h .front;
         ends = (refl, a, h .ends);
         split = rw (append-assoc, ← (h .split)) e;
-        spelled = (front, h .front, refl, rw (← (h .split)) p, h .spelled)
+        spelled = (front, h .front, refl, rw (← (h .split)) p, h .spelled);
       }
   behind k next v us front rest (refused n at) e p a h =
       record {
@@ -71,7 +71,7 @@ module _ {R : Type 0} (C : Codec) (L : Lawful C) where
         asks = (refl, a, h .asks);
         split = rw (append-assoc, ← (h .split)) e;
         spelled = (front, h .front, refl, rw (← (h .split)) p, h .spelled);
-        stops = h .stops
+        stops = h .stops;
       }
 
   asked : (k : Kind) (next : ℕ → Script R) (us : List ℕ) (o : Outcome ℕ) → Explained C k us o

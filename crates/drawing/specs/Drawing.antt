@@ -1,0 +1,70 @@
+-- A drawing, its file, and the drawing of a file's bytes (01, 'Head', 'Numbers given back').
+use mathlib.Core.Path.{_≡_, refl}
+use mathlib.Core.Bool.{Bool, true, false, cond}
+use Prim.Native.Nat.{ℕ, _+_, _-_, _≤_}
+use Prim.Native.Char.{code}
+use mathlib.Core.List.{List, [], _∷_}
+use lib.ListN.{length}
+use lib.Dec.{ltb, eqb}
+use Rattle.format.specs.Codec.{Outcome, found, refused}
+use Rattle.format.specs.FixedCodec.{bytes, byteFields, spellFixed}
+use Rattle.format.specs.Layout.{Layout, field, mark, renamed, encode, parse, _&_, _▸_}
+use Rattle.drawing.specs.Limits.{lengthLimit, depthLimit}
+use Rattle.drawing.specs.Fields.{magic, jdr, versionLength, versionChars, versionZero, charWhere}
+use Rattle.drawing.specs.FieldLaws.{magic-only, version-length-only, outer-only, version-back}
+use Rattle.drawing.specs.String.{String}
+use Rattle.drawing.specs.Settings.{Settings, settings}
+use Rattle.drawing.specs.Object.{Object, group, Objects}
+use Rattle.drawing.specs.ObjectLayout.{object, groupBody}
+
+-- `version` is the minor number; the last two are the outer group's.
+pub record Drawing : Type 0 where
+  pub version : ℕ
+  pub settings : Settings
+  pub members : Objects
+  pub description : String
+
+-- the outer group, row 0
+abbrev pub outer : Drawing → Object
+outer d = group (d .members) (d .description)
+
+-- The version's three chars, kept as the minor number.
+abbrev pub version : Layout ℕ
+version = renamed (field versionChars) (λ c. c - versionZero) (λ m. versionZero + m) version-back
+
+-- The outer object has to be a group. It is the first level of nesting.
+abbrev pub outerGroup : ℕ → Layout (Objects × String)
+outerGroup v = mark (charWhere (λ c. eqb c (code "G"))) (code "G") outer-only (groupBody v (object v (depthLimit - 1)))
+
+abbrev pub file : Layout Drawing
+file =
+    mark magic jdr magic-only
+    (mark versionLength 3 version-length-only
+    (renamed
+    (version ▸ λ v. settings v & outerGroup v)
+    (λ t. record { version = t .0; settings = t .1 .0; members = t .1 .1 .0; description = t .1 .1 .1 })
+    (λ d. (d .version, (d .settings, (d .members, d .description))))
+    (λ t good. refl)))
+
+-- The bytes of a drawing's file.
+abbrev pub fileOf : Drawing → List ℕ
+fileOf d = encode (spellFixed byteFields) file d
+
+-- A drawing that an acceptable file has: every field is allowed where it stands, and the file is not too long.
+pub record Acceptable (d : Drawing) : Type 0 where
+  pub good : file .Good d
+  pub short : length (fileOf d) ≤ lengthLimit
+
+-- The drawing of these bytes, or the number and offset of the refusal.
+pub data Reading : Type 0 where
+  drawing : Drawing → Reading
+  refusal : (number offset : ℕ) → Reading
+
+-- Of bytes, this many in all: what is left from a place on tells its offset. Bytes behind the outer group are 13.
+abbrev pub reading : ℕ → Outcome Drawing → Reading
+reading total (found d []) = drawing d
+reading total (found d (b ∷ rest)) = refusal 13 (total - length (b ∷ rest))
+reading total (refused n at) = refusal n (total - length at)
+
+abbrev pub drawingOf : List ℕ → Reading
+drawingOf bs = cond (ltb lengthLimit (length bs)) (refusal 1 lengthLimit) (reading (length bs) (parse bytes file bs))

@@ -1,0 +1,90 @@
+-- The table of a drawing (01, 'The table'): contents, a row of four words an object, in the order in which objects open;
+-- and bodies, the words of the head and then each object's fields, in the order in which objects end.
+use Prim.Native.Nat.{ℕ, zero, suc, _+_}
+use mathlib.Core.List.{List, [], _∷_, _++_}
+use lib.ListN.{length}
+use Rattle.format.specs.FixedCodec.{wordFields, spellFixed}
+use Rattle.format.specs.Layout.{Layout, field, encode, _&_}
+use Rattle.drawing.specs.Fields.{count}
+use Rattle.drawing.specs.String.{String}
+use Rattle.drawing.specs.Path.{path as pathSpecs}
+use Rattle.drawing.specs.Text.{text as textSpecs}
+use Rattle.drawing.specs.Bitmap.{bitmap as bitmapSpecs}
+use Rattle.drawing.specs.Settings.{settings}
+use Rattle.drawing.specs.Object.{Leaf, path, text, bitmap, Object, leaf, group, Objects, none, more}
+use Rattle.drawing.specs.ObjectLayout.{tail}
+use Rattle.drawing.specs.Drawing.{Drawing, outer}
+
+-- The words of a value: one for a byte, flag, char, integer or float, two for a double.
+abbrev pub wordsOf : {A : Type 0} → Layout A → A → List ℕ
+wordsOf L a = encode (spellFixed wordFields) L a
+
+abbrev pub leafKind : Leaf → ℕ
+leafKind (path p) = 2
+leafKind (text t) = 3
+leafKind (bitmap b) = 4
+
+abbrev pub groupKind : ℕ
+groupKind = 1
+
+-- A leaf's body: its fields after its id char.
+abbrev pub leafWords : ℕ → Leaf → String → List ℕ
+leafWords v (path p) d = wordsOf (pathSpecs v & tail v) (p, d)
+leafWords v (text t) d = wordsOf (textSpecs v & tail v) (t, d)
+leafWords v (bitmap b) d = wordsOf (bitmapSpecs & tail v) (b, d)
+
+-- What a group has of its own: its count, flow frame flag and description.
+abbrev pub groupOwn : ℕ → Layout (ℕ × String)
+groupOwn v = field (count 1) & tail v
+
+abbrev pub groupWords : ℕ → ℕ → String → List ℕ
+groupWords v n d = wordsOf (groupOwn v) (n, d)
+
+abbrev pub howMany : Objects → ℕ
+howMany none = 0
+howMany (more o os) = suc (howMany os)
+
+-- How many objects open in an object, itself among them: its rows.
+abbrev mutual
+  pub rows : Object → ℕ
+  rows (leaf l d) = 1
+  rows (group os d) = suc (rowsAll os)
+
+  pub rowsAll : Objects → ℕ
+  rowsAll none = 0
+  rowsAll (more o os) = rows o + rowsAll os
+
+-- The bodies of an object and of all that it holds, in the order in which they end.
+abbrev mutual
+  pub bodies : Object → ℕ → List ℕ
+  bodies (leaf l d) v = leafWords v l d
+  bodies (group os d) v = bodiesAll os v ++ groupWords v (howMany os) d
+
+  pub bodiesAll : Objects → ℕ → List ℕ
+  bodiesAll none v = []
+  bodiesAll (more o os) v = bodies o v ++ bodiesAll os v
+
+abbrev pub row : ℕ → ℕ → ℕ → List ℕ → List ℕ
+row kind parent start body = kind ∷ parent ∷ start ∷ length body ∷ []
+
+-- The rows of an object and of all that it holds: its parent's row, its own, and where the next body begins.
+abbrev mutual
+  pub contents : Object → ℕ → ℕ → ℕ → ℕ → List ℕ
+  contents (leaf l d) v parent own at = row (leafKind l) parent at (leafWords v l d)
+  contents (group os d) v parent own at =
+      row groupKind parent (at + length (bodiesAll os v)) (groupWords v (howMany os) d) ++ contentsAll os v own (suc own) at
+
+  pub contentsAll : Objects → ℕ → ℕ → ℕ → ℕ → List ℕ
+  contentsAll none v parent own at = []
+  contentsAll (more o os) v parent own at =
+      contents o v parent own at ++ contentsAll os v parent (own + rows o) (at + length (bodies o v))
+
+-- The head's words: the minor version number, then the settings' fields.
+abbrev pub headWords : Drawing → List ℕ
+headWords d = d .version ∷ wordsOf (settings (d .version)) (d .settings)
+
+abbrev pub contentsOf : Drawing → List ℕ
+contentsOf d = contents (outer d) (d .version) 0 0 (length (headWords d))
+
+abbrev pub bodiesOf : Drawing → List ℕ
+bodiesOf d = headWords d ++ bodies (outer d) (d .version)

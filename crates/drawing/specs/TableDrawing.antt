@@ -1,0 +1,128 @@
+-- The drawing of a table: contents and bodies are walked side by side, and every row is compared with what the walk has met.
+-- TableLaws says which drawing this is: the one good drawing with these contents and bodies, where there is one.
+use mathlib.Core.Bool.{Bool, true, false, cond, _&&_}
+use mathlib.Core.Option.{Option, none, some}
+use Prim.Native.Nat.{ℕ, zero, suc, _+_, _-_}
+use mathlib.Core.List.{List, [], _∷_}
+use lib.ListN.{length, getD}
+use lib.Dec.{eqb, leb}
+use Rattle.format.specs.Codec.{Outcome, found, refused}
+use Rattle.format.specs.FixedCodec.{cut, words}
+use Rattle.format.specs.Layout.{Layout, field, parse, _&_, _▸_}
+use Rattle.drawing.specs.Limits.{lastMinor, lengthLimit, depthLimit}
+use Rattle.drawing.specs.Fields.{integerIn}
+use Rattle.drawing.specs.String.{String}
+use Rattle.drawing.specs.Path.{path as pathSpecs}
+use Rattle.drawing.specs.Text.{text as textSpecs}
+use Rattle.drawing.specs.Bitmap.{bitmap as bitmapSpecs}
+use Rattle.drawing.specs.Settings.{Settings, settings}
+use Rattle.drawing.specs.Object.{path, text, bitmap, Object, leaf, group, Objects, ofList}
+use Rattle.drawing.specs.ObjectLayout.{tail}
+use Rattle.drawing.specs.Drawing.{Drawing, fileOf}
+use Rattle.drawing.specs.Table.{groupKind, groupOwn}
+
+-- Where a walk stands: the next row's number and the contents from there on, the next word's and the bodies from there on.
+pub record Place : Type 0 where
+  pub row : ℕ
+  pub contents : List ℕ
+  pub at : ℕ
+  pub bodies : List ℕ
+
+pub data Walk (A : Type 0) : Type 0 where
+  met : A → Place → Walk A
+  lost : Walk A
+
+abbrev pub onward : {A B : Type 0} → Walk A → (A → Place → Walk B) → Walk B
+onward (met a p) f = f a p
+onward lost f = lost
+
+abbrev pub provided : {A : Type 0} → Bool → Walk A → Walk A
+provided true w = w
+provided false w = lost
+
+abbrev pub same : List ℕ → List ℕ → Bool
+same [] [] = true
+same [] (y ∷ ys) = false
+same (x ∷ xs) [] = false
+same (x ∷ xs) (y ∷ ys) = eqb x y && same xs ys
+
+-- The next row's words, with the place behind them.
+abbrev pub rowFrom : Place → Option (List ℕ × List ℕ) → Walk (List ℕ)
+rowFrom p none = lost
+rowFrom p (some parts) = met (parts .0) (record { row = suc (p .row); contents = parts .1; at = p .at; bodies = p .bodies })
+
+abbrev pub nextRow : Place → Walk (List ℕ)
+nextRow p = rowFrom p (cut 4 (p .contents))
+
+-- A body that was parsed, with the row that its object must have.
+abbrev pub bodyFrom : {A : Type 0} → (kind parent : ℕ) (row : List ℕ) → Place → Outcome A → Walk A
+bodyFrom kind parent row p (refused n at) = lost
+bodyFrom kind parent row p (found a rest) =
+    let used = length (p .bodies) - length rest in
+    provided (same row (kind ∷ parent ∷ p .at ∷ used ∷ []))
+    (met a (record { row = p .row; contents = p .contents; at = p .at + used; bodies = rest }))
+
+abbrev pub body : {A : Type 0} → Layout A → (kind parent : ℕ) (row : List ℕ) → Place → Walk A
+body L kind parent row p = bodyFrom kind parent row p (parse words L (p .bodies))
+
+abbrev pub leafBody : {A : Type 0} → Layout A → (A → Object) → (kind parent : ℕ) (row : List ℕ) → Place → Walk Object
+leafBody L make kind parent row p = onward (body L kind parent row p) (λ a q. met (make a) q)
+
+abbrev pub walkMany : ℕ → (Place → Walk Object) → Place → Walk (List Object)
+walkMany zero each p = met [] p
+walkMany (suc n) each p = onward (each p) (λ o q. onward (walkMany n each q) (λ os r. met (o ∷ os) r))
+
+-- A group whose row was met: its objects stand first, as many as the count in its body, which begins where its row says.
+abbrev pub walkGroup : ℕ → (Place → Walk Object) → (parent : ℕ) (row : List ℕ) → Place → Walk (Objects × String)
+walkGroup v each parent row p =
+    let n = getD (p .bodies) (getD row 2 0 - p .at) 0 in
+    onward (walkMany n each p) (λ os q.
+    onward (body (groupOwn v) groupKind parent row q) (λ own r.
+    provided (eqb (own .0) n) (met (ofList os, own .1) r)))
+
+abbrev pub walkLeaf : ℕ → (kind parent : ℕ) (row : List ℕ) → Place → Walk Object
+walkLeaf v kind parent row p =
+    elim (eqb kind 2) [
+      | true ↦ leafBody (pathSpecs v & tail v) (λ t. leaf (path (t .0)) (t .1)) 2 parent row p
+      | false ↦
+          elim (eqb kind 3) [
+            | true ↦ leafBody (textSpecs v & tail v) (λ t. leaf (text (t .0)) (t .1)) 3 parent row p
+            | false ↦ leafBody (bitmapSpecs & tail v) (λ t. leaf (bitmap (t .0)) (t .1)) 4 parent row p
+          ]
+    ]
+
+-- An object, in which groups nest at most so deep.
+abbrev pub walkObject : ℕ → ℕ → (parent : ℕ) → Place → Walk Object
+walkObject v zero parent p = onward (nextRow p) (λ row q. walkLeaf v (getD row 0 0) parent row q)
+walkObject v (suc deep) parent p =
+    onward (nextRow p) (λ row q.
+    elim (eqb (getD row 0 0) groupKind) [
+      | true ↦ onward (walkGroup v (λ r. walkObject v deep (p .row) r) parent row q) (λ t r. met (group (t .0) (t .1)) r)
+      | false ↦ walkLeaf v (getD row 0 0) parent row q
+    ])
+
+abbrev pub tableHead : Layout (ℕ × Settings)
+tableHead = field (integerIn 0 lastMinor) ▸ settings
+
+-- The outer group, behind the head.
+abbrev pub walkOuter : ℕ → Place → Walk (Objects × String)
+walkOuter v p = onward (nextRow p) (λ row q. walkGroup v (λ r. walkObject v (depthLimit - 1) 0 r) 0 row q)
+
+-- The table was walked to its end, and the drawing's file is not too long.
+abbrev pub ended : Drawing → Place → Bool
+ended d p = same (p .contents) [] && same (p .bodies) [] && leb (length (fileOf d)) lengthLimit
+
+abbrev pub wholeTable : ℕ → Settings → Walk (Objects × String) → Option Drawing
+wholeTable v s lost = none
+wholeTable v s (met t p) =
+    let d : Drawing = record { version = v; settings = s; members = t .0; description = t .1 } in
+    elim (ended d p) [ true ↦ some d | false ↦ none ]
+
+abbrev pub behindHead : List ℕ → ℕ → Outcome (ℕ × Settings) → Option Drawing
+behindHead contents total (refused n at) = none
+behindHead contents total (found h rest) =
+    wholeTable (h .0) (h .1)
+    (walkOuter (h .0) (record { row = 0; contents = contents; at = total - length rest; bodies = rest }))
+
+abbrev pub drawingOfTable : List ℕ → List ℕ → Option Drawing
+drawingOfTable contents bodies = behindHead contents (length bodies) (parse words tableHead bodies)
