@@ -20,4 +20,7 @@ pub mod ObjectLayout
 pub mod Drawing
 pub mod Table
 pub mod TableDrawing
+pub mod Order
+pub mod Answers
+pub mod Questions
 pub mod Try

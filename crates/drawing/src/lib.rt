@@ -1,1 +1,74 @@
-// The drawing layer: what a drawing is, its file, its table, and what each call answers. Its definitions and laws are in specs/.
+// The drawing layer: what a drawing is, its file, its table, and what each call answers. Its definitions and laws are in
+// specs/; here are the types of the answers that they speak of.
+
+// What a call gives back: 01's number, the offset, and the counts of rows and words.
+pub struct Answer {
+    pub number: u32,
+    pub offset: u32,
+    pub rows: u32,
+    pub words: u32,
+}
+
+// A plain paint with its components, in file order.
+pub enum Paint {
+    Transparent,
+    Rgb {
+        red: f32,
+        green: f32,
+        blue: f32,
+        alpha: f32,
+    },
+    Cmyk {
+        cyan: f32,
+        magenta: f32,
+        yellow: f32,
+        black: f32,
+        alpha: f32,
+    },
+    Grey {
+        grey: f32,
+        alpha: f32,
+    },
+    Hsb {
+        hue: f32,
+        saturation: f32,
+        brightness: f32,
+        alpha: f32,
+    },
+}
+
+// The answer of the paint question: a refusal's number, a plain paint, or a gradient of two plain paints with its integer.
+pub enum PaintAnswer {
+    Refused(u32),
+    Plain(Paint),
+    Linear {
+        from: Paint,
+        to: Paint,
+        direction: u32,
+    },
+    Radial {
+        from: Paint,
+        to: Paint,
+        location: u32,
+    },
+}
+
+// Which paint the paint question is about.
+pub enum Which {
+    Line,
+    Fill,
+    Text,
+}
+
+// A run of words in the bodies.
+pub struct Span {
+    pub start: u32,
+    pub length: u32,
+}
+
+// The answer of the text question: 01's number, and where the chars of the LaTeX alternative and of the text stand.
+pub struct TextAnswer {
+    pub number: u32,
+    pub alternative: Span,
+    pub text: Span,
+}
