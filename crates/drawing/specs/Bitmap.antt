@@ -21,12 +21,12 @@ pub record Bitmap : Type 0 where
 
 abbrev pub bitmapLatex : Layout BitmapLatex
 bitmapLatex =
-    renamed (string 0 & string 0) (λ t. record { link = t .0; command = t .1 }) (λ l. (l .link, l .command)) (λ t good. refl)
+    renamed (string 0 & string 0) (λ (link, command). record { link = link; command = command }) (λ l. (l .link, l .command)) (λ t good. refl)
 
 abbrev pub bitmap : Layout Bitmap
 bitmap =
     renamed
     (string 1 & ifFlag bitmapLatex & transformation)
-    (λ t. record { name = t .0; latex = t .1 .0; transformation = t .1 .1 })
+    (λ (name, (latex, transformation)). record { name = name; latex = latex; transformation = transformation })
     (λ b. (b .name, (b .latex, b .transformation)))
     (λ t good. refl)

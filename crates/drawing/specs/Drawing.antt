@@ -42,7 +42,7 @@ file =
     (mark versionLength 3 version-length-only
     (renamed
     (version ▸ λ v. settings v & outerGroup v)
-    (λ t. record { version = t .0; settings = t .1 .0; members = t .1 .1 .0; description = t .1 .1 .1 })
+    (λ (version, (settings, (members, description))). record { version = version; settings = settings; members = members; description = description })
     (λ d. (d .version, (d .settings, (d .members, d .description))))
     (λ t good. refl)))
 

@@ -35,18 +35,7 @@ lineStyle v =
     & markers v
     & when (leb 1 v) (markers v) []
     & markers v)
-    (λ t.
-    record {
-      width = t .0;
-      dashes = t .1 .0 .0;
-      dashOffset = t .1 .0 .1;
-      cap = t .1 .1 .0;
-      join = t .1 .1 .1 .0 .0;
-      mitreLimit = t .1 .1 .1 .0 .1;
-      winding = t .1 .1 .1 .1 .0;
-      start = t .1 .1 .1 .1 .1 .0;
-      mid = t .1 .1 .1 .1 .1 .1 .0;
-      end = t .1 .1 .1 .1 .1 .1 .1;
-    })
+    (λ (width, ((dashes, dashOffset), (cap, ((join, mitreLimit), (winding, (start, (mid, end))))))).
+    record { width = width; dashes = dashes; dashOffset = dashOffset; cap = cap; join = join; mitreLimit = mitreLimit; winding = winding; start = start; mid = mid; end = end })
     (λ s. (s .width, ((s .dashes, s .dashOffset), (s .cap, ((s .join, s .mitreLimit), (s .winding, (s .start, (s .mid, s .end))))))))
     (λ t good. refl)

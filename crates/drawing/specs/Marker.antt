@@ -34,19 +34,8 @@ abbrev pub arrow : ℕ → Layout Marker
 arrow id =
     renamed
     (field float & field flag & field flag)
-    (λ t.
-    record {
-      id = id;
-      size = t .0;
-      double = t .1 .0;
-      repeat = 0;
-      reversed = t .1 .1;
-      angle = none;
-      paint = transparent;
-      overlay = 0;
-      offset = none;
-      repeatOffset = none;
-    })
+    (λ (size, (double, reversed)).
+    record { id = id; size = size; double = double; repeat = 0; reversed = reversed; angle = none; paint = transparent; overlay = 0; offset = none; repeatOffset = none })
     (λ m. (m .size, (m .double, m .reversed)))
     (λ t good. refl)
 
@@ -56,19 +45,8 @@ marker v id =
     renamed
     (field float & field (byteIn 1 3) & field flag & unlessFlag (field float) & plainPaint v
     & (field flag ▸ λ overlay. when (leb 4 v && eqb overlay 0) (ifFlag (field float) & ifFlag (field float)) (none, none)))
-    (λ t.
-    record {
-      id = id;
-      size = t .0;
-      double = 0;
-      repeat = t .1 .0;
-      reversed = t .1 .1 .0;
-      angle = t .1 .1 .1 .0;
-      paint = t .1 .1 .1 .1 .0;
-      overlay = t .1 .1 .1 .1 .1 .0;
-      offset = t .1 .1 .1 .1 .1 .1 .0;
-      repeatOffset = t .1 .1 .1 .1 .1 .1 .1;
-    })
+    (λ (size, (repeat, (reversed, (angle, (paint, (overlay, (offset, repeatOffset))))))).
+    record { id = id; size = size; double = 0; repeat = repeat; reversed = reversed; angle = angle; paint = paint; overlay = overlay; offset = offset; repeatOffset = repeatOffset })
     (λ m. (m .size, (m .repeat, (m .reversed, (m .angle, (m .paint, (m .overlay, (m .offset, m .repeatOffset))))))))
     (λ t good. refl)
 

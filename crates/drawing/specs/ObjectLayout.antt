@@ -57,16 +57,16 @@ abbrev pub groupBody : ℕ → Layout Object → Layout (Objects × String)
 groupBody v each = renamed (counted (count 1) each) ofList listOf (λ os good. list-of-list os) & tail v
 
 abbrev pub pathCase : ℕ → Alternative Object objectLetter
-pathCase v = alternative (code "P") true (pathSpecs v & tail v) (λ t. leaf (path (t .0)) (t .1)) pathOf (λ t. refl) (λ t. refl)
+pathCase v = alternative (code "P") true (pathSpecs v & tail v) (λ (x, d). leaf (path x) d) pathOf (λ t. refl) (λ t. refl)
 
 abbrev pub textCase : ℕ → Alternative Object objectLetter
-textCase v = alternative (code "T") true (textSpecs v & tail v) (λ t. leaf (text (t .0)) (t .1)) textOf (λ t. refl) (λ t. refl)
+textCase v = alternative (code "T") true (textSpecs v & tail v) (λ (x, d). leaf (text x) d) textOf (λ t. refl) (λ t. refl)
 
 abbrev pub bitmapCase : ℕ → Alternative Object objectLetter
-bitmapCase v = alternative (code "I") true (bitmapSpecs & tail v) (λ t. leaf (bitmap (t .0)) (t .1)) bitmapOf (λ t. refl) (λ t. refl)
+bitmapCase v = alternative (code "I") true (bitmapSpecs & tail v) (λ (x, d). leaf (bitmap x) d) bitmapOf (λ t. refl) (λ t. refl)
 
 abbrev pub groupCase : ℕ → Layout Object → Alternative Object objectLetter
-groupCase v each = alternative (code "G") true (groupBody v each) (λ t. group (t .0) (t .1)) groupOf (λ t. refl) (λ t. refl)
+groupCase v each = alternative (code "G") true (groupBody v each) (λ (os, d). group os d) groupOf (λ t. refl) (λ t. refl)
 
 -- An object in which groups nest at most so deep.
 abbrev pub object : ℕ → ℕ → Layout Object

@@ -66,10 +66,10 @@ transparentCase =
 
 abbrev pub plainCases : ℕ → List (Alternative Plain plainLetter)
 plainCases v =
-    alternative (code "R") true (field component & field component & field component & field component) (λ c. rgb (c .0) (c .1 .0) (c .1 .1 .0) (c .1 .1 .1)) four (λ c. refl) (λ c. refl)
-    ∷ alternative (code "C") true (field component & field component & field component & field component & field component) (λ c. cmyk (c .0) (c .1 .0) (c .1 .1 .0) (c .1 .1 .1 .0) (c .1 .1 .1 .1)) (λ p. some (components p)) (λ c. refl) (λ c. refl)
-    ∷ alternative (code "Y") (leb 4 v) (field component & field component) (λ c. grey (c .0) (c .1)) (λ p. some (components p .0, components p .1 .0)) (λ c. refl) (λ c. refl)
-    ∷ alternative (code "S") (leb 4 v) (field hue & field component & field component & field component) (λ c. hsb (c .0) (c .1 .0) (c .1 .1 .0) (c .1 .1 .1)) four (λ c. refl) (λ c. refl)
+    alternative (code "R") true (field component & field component & field component & field component) (λ (r, (g, (b, a))). rgb r g b a) four (λ c. refl) (λ c. refl)
+    ∷ alternative (code "C") true (field component & field component & field component & field component & field component) (λ (c, (m, (y, (k, a)))). cmyk c m y k a) (λ p. some (components p)) (λ c. refl) (λ c. refl)
+    ∷ alternative (code "Y") (leb 4 v) (field component & field component) (λ (g, a). grey g a) (λ p. some (components p .0, components p .1 .0)) (λ c. refl) (λ c. refl)
+    ∷ alternative (code "S") (leb 4 v) (field hue & field component & field component & field component) (λ (h, (s, (b, a))). hsb h s b a) four (λ c. refl) (λ c. refl)
     ∷ []
 
 abbrev pub plainPaint : ℕ → Layout Plain
@@ -83,6 +83,6 @@ abbrev pub paint : ℕ → Layout Paint
 paint v =
     byChar paintLetter (asPaint transparentCase)
     (map asPaint (plainCases v)
-    ++ (alternative (code "G") true (plainPaint v & plainPaint v & field (integerIn 0 7)) (λ g. linear (g .0) (g .1 .0) (g .1 .1)) gradientOf (λ g. refl) (λ g. refl)
-    ∷ alternative (code "D") (leb 3 v) (plainPaint v & plainPaint v & field (integerIn 0 8)) (λ g. radial (g .0) (g .1 .0) (g .1 .1)) gradientOf (λ g. refl) (λ g. refl)
+    ++ (alternative (code "G") true (plainPaint v & plainPaint v & field (integerIn 0 7)) (λ (from, (to, direction)). linear from to direction) gradientOf (λ g. refl) (λ g. refl)
+    ∷ alternative (code "D") (leb 3 v) (plainPaint v & plainPaint v & field (integerIn 0 8)) (λ (from, (to, location)). radial from to location) gradientOf (λ g. refl) (λ g. refl)
     ∷ []))

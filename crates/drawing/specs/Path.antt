@@ -62,7 +62,7 @@ linePoints (move s e) = some (s, e)
 -- ---- the layout
 
 abbrev pub twoDoubles : Layout ℕ → Layout ℕ → Layout Point
-twoDoubles x y = renamed (x & y) (λ t. record { x = t .0; y = t .1 }) (λ p. (p .x, p .y)) (λ t good. refl)
+twoDoubles x y = renamed (x & y) (λ (x, y). record { x = x; y = y }) (λ p. (p .x, p .y)) (λ t good. refl)
 
 abbrev pub point : Layout Point
 point = twoDoubles (field double) (field double)
@@ -77,9 +77,9 @@ abbrev pub segment : ℕ → Option Point → Layout Segment
 segment v before =
     let start = when (ltb v 3) (joinedPoint before) origin in
     byChar segmentLetter
-    (alternative (code "B") true (start & point & point & point) (λ t. curve (t .0) (t .1 .0) (t .1 .1 .0) (t .1 .1 .1)) curvePoints (λ t. refl) (λ t. refl))
-    (alternative (code "L") true (start & point) (λ t. line (t .0) (t .1)) linePoints (λ t. refl) (λ t. refl)
-    ∷ alternative (code "M") true (start & point) (λ t. move (t .0) (t .1)) linePoints (λ t. refl) (λ t. refl)
+    (alternative (code "B") true (start & point & point & point) (λ (s, (p, (q, e))). curve s p q e) curvePoints (λ t. refl) (λ t. refl))
+    (alternative (code "L") true (start & point) (λ (s, e). line s e) linePoints (λ t. refl) (λ t. refl)
+    ∷ alternative (code "M") true (start & point) (λ (s, e). move s e) linePoints (λ t. refl) (λ t. refl)
     ∷ [])
 
 abbrev pub segments : ℕ → ℕ → Layout (List Segment)
@@ -98,14 +98,7 @@ abbrev pub path : ℕ → Layout Path
 path v =
     renamed
     (paint v & paint v & lineStyle v & field (charWhere (oneOfChars (code "O" ∷ code "C" ∷ []))) & outline v)
-    (λ t.
-    record {
-      linePaint = t .0;
-      fillPaint = t .1 .0;
-      style = t .1 .1 .0;
-      closed = t .1 .1 .1 .0;
-      start = t .1 .1 .1 .1 .0;
-      segments = t .1 .1 .1 .1 .1;
-    })
+    (λ (linePaint, (fillPaint, (style, (closed, (start, segments))))).
+    record { linePaint = linePaint; fillPaint = fillPaint; style = style; closed = closed; start = start; segments = segments })
     (λ p. (p .linePaint, (p .fillPaint, (p .style, (p .closed, (p .start, p .segments))))))
     (λ t good. refl)

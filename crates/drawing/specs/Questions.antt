@@ -1,6 +1,6 @@
 -- What the paint question and the text question answer, and which of two texts is shown (01, 'Paint', 'Text to show').
 use mathlib.Core.Bool.{Bool, true, false, cond}
-use mathlib.Core.Option.{Option, none, some}
+use mathlib.Core.Option.{Option, none, some, Option·map}
 use Prim.Native.Nat.{ℕ, _+_, _*_}
 use mathlib.Core.List.{List, [], _∷_}
 use lib.ListN.{length, getD, getElem?}
@@ -20,7 +20,8 @@ use Rattle.drawing.specs.String.{String, string}
 use Rattle.drawing.specs.Choices.{ifFlag}
 use Rattle.drawing.specs.Paint as P
 use Rattle.drawing.specs.Text as T
-use Rattle.drawing.specs.Object.{Object, leaf, group, path, text, bitmap}
+use Rattle.drawing.specs.Object.{Object}
+use Rattle.drawing.specs.ObjectLayout.{pathOf, textOf}
 use Rattle.drawing.specs.Drawing.{Drawing}
 use Rattle.drawing.specs.Table.{wordsOf, contentsOf}
 use Rattle.drawing.specs.TableDrawing.{drawingOfTable}
@@ -54,18 +55,9 @@ paintNumber (Radial f t l) = 0
 
 -- The paint of this part, where an object has the part.
 abbrev pub paintPart : Which → Object → Option P.Paint
-paintPart Line (leaf (path p) d) = some (p .linePaint)
-paintPart Line (leaf (text t) d) = none
-paintPart Line (leaf (bitmap b) d) = none
-paintPart Line (group os d) = none
-paintPart Fill (leaf (path p) d) = some (p .fillPaint)
-paintPart Fill (leaf (text t) d) = none
-paintPart Fill (leaf (bitmap b) d) = none
-paintPart Fill (group os d) = none
-paintPart Text (leaf (path p) d) = none
-paintPart Text (leaf (text t) d) = some (t .paint)
-paintPart Text (leaf (bitmap b) d) = none
-paintPart Text (group os d) = none
+paintPart Line o = Option·map (λ t. t .0 .linePaint) (pathOf o)
+paintPart Fill o = Option·map (λ t. t .0 .fillPaint) (pathOf o)
+paintPart Text o = Option·map (λ t. t .0 .paint) (textOf o)
 
 abbrev pub paintFrom : Option P.Paint → PaintAnswer
 paintFrom none = Refused 7
@@ -120,13 +112,15 @@ textSpan v start t =
     (start + length (beforeLatex t) + length (wordsOf (ifFlag T.latex) (t .latex)) + length (wordsOf (P.paint v) (t .paint)) + 1)
     (t .text)
 
+-- A text that is to be found in a body of this version that begins here.
+abbrev pub textIn : (v start : ℕ) → Option (T.Text × String) → TextAnswer
+textIn v start none = textRefused 7
+textIn v start (some t) =
+    record { number = 0; alternative = alternativeSpan start (t .0) (t .0 .latex); text = textSpan v start (t .0) }
+
 abbrev pub textAt : (v start : ℕ) → Option Object → TextAnswer
 textAt v start none = textRefused 6
-textAt v start (some (leaf (path p) d)) = textRefused 7
-textAt v start (some (leaf (text t) d)) =
-    record { number = 0; alternative = alternativeSpan start t (t .latex); text = textSpan v start t }
-textAt v start (some (leaf (bitmap b) d)) = textRefused 7
-textAt v start (some (group os d)) = textRefused 7
+textAt v start (some o) = textIn v start (textOf o)
 
 -- A row's body begins where the third word of the row says.
 abbrev pub textFrom : Option Drawing → ℕ → TextAnswer

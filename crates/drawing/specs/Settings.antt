@@ -57,7 +57,7 @@ paper v =
     renamed
     (field (byteIn 0 (cond (leb 3 v) 72 18))
     ▸ λ size. when (eqb size 18) (field double & field double & when (ltb v 3) (field flag) 0) (0, (0, 0)))
-    (λ t. record { size = t .0; width = t .1 .0; height = t .1 .1 .0; portrait = t .1 .1 .1 })
+    (λ (size, (width, (height, portrait))). record { size = size; width = width; height = height; portrait = portrait })
     (λ p. (p .size, (p .width, (p .height, p .portrait))))
     (λ t good. refl)
 
@@ -65,18 +65,8 @@ abbrev pub allSettings : ℕ → Layout AllSettings
 allSettings v =
     renamed
     (field flag & field flag & field flag & field (integerIn 0 7) & field integer & paper v & field (byteIn 0 3) & field integer & field integer)
-    (λ t.
-    record {
-      grid = t .0;
-      lock = t .1 .0;
-      rulers = t .1 .1 .0;
-      tool = t .1 .1 .1 .0;
-      normalSize = t .1 .1 .1 .1 .0;
-      paper = t .1 .1 .1 .1 .1 .0;
-      unit = t .1 .1 .1 .1 .1 .1 .0;
-      major = t .1 .1 .1 .1 .1 .1 .1 .0;
-      minor = t .1 .1 .1 .1 .1 .1 .1 .1;
-    })
+    (λ (grid, (lock, (rulers, (tool, (normalSize, (paper, (unit, (major, minor)))))))).
+    record { grid = grid; lock = lock; rulers = rulers; tool = tool; normalSize = normalSize; paper = paper; unit = unit; major = major; minor = minor })
     (λ s. (s .grid, (s .lock, (s .rulers, (s .tool, (s .normalSize, (s .paper, (s .unit, (s .major, s .minor)))))))))
     (λ t good. refl)
 

@@ -83,11 +83,11 @@ walkGroup v each parent row p =
 abbrev pub walkLeaf : ℕ → (kind parent : ℕ) (row : List ℕ) → Place → Walk Object
 walkLeaf v kind parent row p =
     elim (eqb kind 2) [
-      | true ↦ leafBody (pathSpecs v & tail v) (λ t. leaf (path (t .0)) (t .1)) 2 parent row p
+      | true ↦ leafBody (pathSpecs v & tail v) (λ (x, d). leaf (path x) d) 2 parent row p
       | false ↦
           elim (eqb kind 3) [
-            | true ↦ leafBody (textSpecs v & tail v) (λ t. leaf (text (t .0)) (t .1)) 3 parent row p
-            | false ↦ leafBody (bitmapSpecs & tail v) (λ t. leaf (bitmap (t .0)) (t .1)) 4 parent row p
+            | true ↦ leafBody (textSpecs v & tail v) (λ (x, d). leaf (text x) d) 3 parent row p
+            | false ↦ leafBody (bitmapSpecs & tail v) (λ (x, d). leaf (bitmap x) d) 4 parent row p
           ]
     ]
 
@@ -97,7 +97,7 @@ walkObject v zero parent p = onward (nextRow p) (λ row q. walkLeaf v (getD row 
 walkObject v (suc deep) parent p =
     onward (nextRow p) (λ row q.
     elim (eqb (getD row 0 0) groupKind) [
-      | true ↦ onward (walkGroup v (λ r. walkObject v deep (p .row) r) parent row q) (λ t r. met (group (t .0) (t .1)) r)
+      | true ↦ onward (walkGroup v (λ r. walkObject v deep (p .row) r) parent row q) (λ (os, d) r. met (group os d) r)
       | false ↦ walkLeaf v (getD row 0 0) parent row q
     ])
 

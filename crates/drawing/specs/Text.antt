@@ -37,16 +37,8 @@ abbrev pub latex : Layout Latex
 latex =
     renamed
     (string 0 & string 0 & string 0 & string 0 & field (byteIn 0 2) & field (byteIn 0 3) & string 0)
-    (λ t.
-    record {
-      family = t .0;
-      series = t .1 .0;
-      shape = t .1 .1 .0;
-      size = t .1 .1 .1 .0;
-      horizontal = t .1 .1 .1 .1 .0;
-      vertical = t .1 .1 .1 .1 .1 .0;
-      alternative = t .1 .1 .1 .1 .1 .1;
-    })
+    (λ (family, (series, (shape, (size, (horizontal, (vertical, alternative)))))).
+    record { family = family; series = series; shape = shape; size = size; horizontal = horizontal; vertical = vertical; alternative = alternative })
     (λ l. (l .family, (l .series, (l .shape, (l .size, (l .horizontal, (l .vertical, l .alternative)))))))
     (λ t good. refl)
 
@@ -54,16 +46,7 @@ abbrev pub text : ℕ → Layout Text
 text v =
     renamed
     (string 0 & field (byteIn 0 1) & field (byteIn 0 1) & field fontSize & transformation & ifFlag latex & paint v & string 1)
-    (λ t.
-    record {
-      family = t .0;
-      shape = t .1 .0;
-      series = t .1 .1 .0;
-      size = t .1 .1 .1 .0;
-      transformation = t .1 .1 .1 .1 .0;
-      latex = t .1 .1 .1 .1 .1 .0;
-      paint = t .1 .1 .1 .1 .1 .1 .0;
-      text = t .1 .1 .1 .1 .1 .1 .1;
-    })
+    (λ (family, (shape, (series, (size, (transformation, (latex, (paint, text))))))).
+    record { family = family; shape = shape; series = series; size = size; transformation = transformation; latex = latex; paint = paint; text = text })
     (λ x. (x .family, (x .shape, (x .series, (x .size, (x .transformation, (x .latex, (x .paint, x .text))))))))
     (λ t good. refl)
