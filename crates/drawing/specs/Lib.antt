@@ -18,9 +18,10 @@ pub mod Object
 pub mod ObjectLaws
 pub mod ObjectLayout
 pub mod Drawing
+pub mod Refusal
+pub mod DrawingLaws
 pub mod Table
 pub mod TableDrawing
 pub mod Order
 pub mod Answers
 pub mod Questions
-pub mod Try

@@ -13,19 +13,32 @@ use Rattle.format.specs.Format.{Format, fields, script}
 use Rattle.format.specs.FormatLaws.{ends-script, Taken, taken}
 use Rattle.format.specs.Layout.{Layout, encode, parse}
 
--- Fields that a script takes can be written.
-pub spelled-all : {R : Type 0} (C : Codec) (spell : Spelling) → Writes C spell → (s : Script R) (fs : List Field) (r : R) (rest : List ℕ) → Ends s fs r → Spelled C fs (spellAll spell fs) rest
-spelled-all C spell w (end x) [] r rest e = refl
-spelled-all C spell w (end x) (f ∷ fs) r rest e = absurd e
-spelled-all C spell w (ask k next) [] r rest e = absurd e
-spelled-all C spell w (ask k next) (f ∷ fs) r rest e =
-    let a : Allowed (f .kind) (f .value) = rw (e .0) (e .1) in (
-      spell (f .kind) (f .value),
-      spellAll spell fs,
-      refl,
-      w (f .kind) (f .value) (spellAll spell fs ++ rest) a,
-      spelled-all C spell w (next (f .value)) fs r rest (e .2),
-    )
+-- Every field is allowed by its own kind.
+abbrev pub AllAllowed : List Field → Type 0
+AllAllowed [] = Unit {0}
+AllAllowed (f ∷ fs) = Allowed (f .kind) (f .value) × AllAllowed fs
+
+-- So are the fields that a script was given, to its end or up to a field that it asks for.
+pub ends-allowed : {R : Type 0} (s : Script R) (fs : List Field) (r : R) → Ends s fs r → AllAllowed fs
+ends-allowed (end x) [] r e = tt
+ends-allowed (end x) (f ∷ fs) r e = absurd e
+ends-allowed (ask k next) [] r e = absurd e
+ends-allowed (ask k next) (f ∷ fs) r e = (rw (e .0) (e .1), ends-allowed (next (f .value)) fs r (e .2))
+
+pub asks-allowed : {R : Type 0} (s : Script R) (fs : List Field) (k : Kind) → Asks s fs k → AllAllowed fs
+asks-allowed (end x) fs k e = absurd e
+asks-allowed (ask k′ next) [] k e = tt
+asks-allowed (ask k′ next) (f ∷ fs) k e = (rw (e .0) (e .1), asks-allowed (next (f .value)) fs k (e .2))
+
+-- Allowed fields can be written.
+pub spelled-all : (C : Codec) (spell : Spelling) → Writes C spell → (fs : List Field) (rest : List ℕ) → AllAllowed fs → Spelled C fs (spellAll spell fs) rest
+spelled-all C spell w [] rest a = refl
+spelled-all C spell w (f ∷ fs) rest a =
+    ( spell (f .kind) (f .value)
+    , spellAll spell fs
+    , refl
+    , w (f .kind) (f .value) (spellAll spell fs ++ rest) (a .0)
+    , spelled-all C spell w fs rest (a .1) )
 
 -- Where a value has one spelling only, units that spell fields are the written ones.
 pub spelled-strict : (C : Codec) (spell : Spelling) → Strict C spell → (fs : List Field) (us rest : List ℕ) → Spelled C fs us rest → us ≡ spellAll spell fs
@@ -50,7 +63,7 @@ module _ {A : Type 0} (C : Codec) (L : Lawful C) (F : Layout A) where
 
   pub complete-written : (spell : Spelling) → Writes C spell → (a : A) → F .Good a → (rest : List ℕ) → parse C F (encode spell F a ++ rest) ≡ found a rest
   complete-written spell w a g rest =
-      complete a g (encode spell F a) rest (spelled-all C spell w (script (F .format) (λ a. end a)) (fields (F .format) a) a rest (ends-good a g))
+      complete a g (encode spell F a) rest (spelled-all C spell w (fields (F .format) a) rest (ends-allowed (script (F .format) (λ a. end a)) (fields (F .format) a) a (ends-good a g)))
 
   -- What the units hold, where they parse.
   pub record Held (us : List ℕ) (a : A) (rest : List ℕ) : Type 0 where

@@ -16,5 +16,6 @@ pub mod Alternative
 pub mod AlternativeLaws
 pub mod Choice
 pub mod LayoutLaws
+pub mod FixedLayoutLaws
 pub mod LeafLaws
 pub mod SignedExamples

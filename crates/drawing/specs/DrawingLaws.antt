@@ -1,0 +1,122 @@
+-- Demand 2 for bytes: the drawing of these bytes is the one whose file they are, and otherwise there is one refusal, as 01 orders them.
+use mathlib.Core.Path.{_≡_, refl, sym, ap, ap₂, _∙_, subst}
+use mathlib.Core.Logic.{_↔_, _⊎_, inl, inr}
+use mathlib.Core.Bool.{Bool, true, false, cond}
+use Prim.Native.Nat.{ℕ, suc, _<_, _≤_, _+_, _-_}
+use mathlib.Core.List.{List, [], _∷_, _++_, append-nil}
+use lib.ListN.{length, length-append}
+use lib.Dec.{ltb}
+use native.Mathlib.Omega.{arith}
+use borrow.Author.Tests.{ltb-true, ltb-false, lt-ltb, le-ltb}
+use Rattle.format.specs.Digits.{Below}
+use Rattle.format.specs.Codec.{Outcome, found, refused, spellAll}
+use Rattle.format.specs.FixedCodec.{bytes, byteFields, spellFixed, Cut, Faulty}
+use Rattle.format.specs.FixedCodecLaws.{bytes-sensible, bytes-literal}
+use Rattle.format.specs.Layout.{parse}
+use Rattle.format.specs.FixedLayoutLaws.{Stopped, parse-encoded, parse-encoded-alone, parsed-good, encode-unique, refused-stopped}
+use Rattle.drawing.specs.Limits.{lengthLimit}
+use Rattle.drawing.specs.Drawing.{Drawing, file, fileOf, Acceptable, Reading, drawing, refusal, reading, drawingOf}
+use Rattle.drawing.specs.Refusal.{fileScript, TooLong, AtField, Trailing, Refused}
+
+-- No two drawings have the same file.
+pub file-unique : (d e : Drawing) → file .Good d → file .Good e → fileOf d ≡ fileOf e → d ≡ e
+file-unique d e g h p = encode-unique byteFields bytes-sensible bytes-literal file d e [] [] g h (ap (λ l. l ++ []) p) .0
+
+reading-drawing : (total : ℕ) (o : Outcome Drawing) (d : Drawing) → reading total o ≡ drawing d → o ≡ found d []
+reading-drawing total (found x []) d e = cc
+reading-drawing total (found x (b ∷ rest)) d e = let z : _≡_ {A = ℕ} 0 1 = cc in absurd (omega arith)
+reading-drawing total (refused n at) d e = let z : _≡_ {A = ℕ} 0 1 = cc in absurd (omega arith)
+
+accepted : (bs : List ℕ) (o : Outcome Drawing) (t : Bool) → ltb lengthLimit (length bs) ≡ t → (d : Drawing)
+    → cond t (refusal 1 lengthLimit) (reading (length bs) o) ≡ drawing d → (length bs ≤ lengthLimit) × (o ≡ found d [])
+accepted bs o true h d e = let z : _≡_ {A = ℕ} 0 1 = cc in absurd (omega arith)
+accepted bs o false h d e = (ltb-false lengthLimit (length bs) h, reading-drawing (length bs) o d e)
+
+-- Of bytes that are short enough, the reading is that of their parse.
+short-reading : (bs : List ℕ) → length bs ≤ lengthLimit → (o : Outcome Drawing) → parse bytes file bs ≡ o → drawingOf bs ≡ reading (length bs) o
+short-reading bs h o e =
+    ap (λ t. cond t (refusal 1 lengthLimit) (reading (length bs) (parse bytes file bs))) (le-ltb lengthLimit (length bs) h)
+    ∙ ap (reading (length bs)) e
+
+-- The drawing of these bytes is d exactly when d is acceptable and the bytes are d's file.
+pub drawing-of-bytes : (bs : List ℕ) → Below 256 bs → (d : Drawing) → (drawingOf bs ≡ drawing d) ↔ (Acceptable d × (bs ≡ fileOf d))
+drawing-of-bytes bs b d = (there, back)
+  where
+    there : drawingOf bs ≡ drawing d → Acceptable d × (bs ≡ fileOf d)
+    there e =
+        let j = accepted bs (parse bytes file bs) (ltb lengthLimit (length bs)) refl d e in
+        let s = parsed-good byteFields bytes-sensible bytes-literal file bs b d [] (j .1) in
+        let same : bs ≡ fileOf d = s .1 ∙ append-nil (fileOf d) in
+        (record { good = s .0; short = rw same at (j .0) }, same)
+    back : Acceptable d × (bs ≡ fileOf d) → drawingOf bs ≡ drawing d
+    back (a, e) =
+        ap drawingOf e
+        ∙ short-reading (fileOf d) (a .short) (found d []) (parse-encoded-alone byteFields bytes-sensible bytes-literal file d (a .good))
+
+-- ---- refusals
+
+-- How far in a place is, by what is left there.
+offset-of : (bs front at : List ℕ) → bs ≡ front ++ at → length bs - length at ≡ length front
+offset-of bs front at e = rw (e, length-append) (omega arith)
+
+-- What a refused parse, or one with bytes left, says of the bytes.
+said : (bs : List ℕ) → Below 256 bs → length bs ≤ lengthLimit → (o : Outcome Drawing) → parse bytes file bs ≡ o → (n offset : ℕ)
+    → reading (length bs) o ≡ refusal n offset → AtField bs n offset ⊎ Trailing bs n offset
+said bs b short (found d []) p n offset e = let z : _≡_ {A = ℕ} 0 1 = cc in absurd (omega arith)
+said bs b short (found d (x ∷ rest)) p n offset e =
+    let s = parsed-good byteFields bytes-sensible bytes-literal file bs b d (x ∷ rest) p in
+    let q : length bs - length (x ∷ rest) ≡ offset = cc in
+    inr (record {
+      short = short;
+      drawing = d;
+      rest = x ∷ rest;
+      good = s .0;
+      split = s .1;
+      some-left = omega arith;
+      number-is = cc;
+      offset-is = sym q ∙ offset-of bs (fileOf d) (x ∷ rest) (s .1)
+    })
+said bs b short (refused m at) p n offset e =
+    let s = refused-stopped byteFields bytes-sensible bytes-literal file bs b m at .0 p in
+    let number : m ≡ n = cc in
+    let q : length bs - length at ≡ offset = cc in
+    inl (record {
+      short = short;
+      fields = s .fields;
+      kind = s .kind;
+      back = at;
+      asks = s .asks;
+      split = s .split;
+      offset-is = sym q ∙ offset-of bs (spellAll (spellFixed byteFields) (s .fields)) at (s .split);
+      at-fault = subst (λ x. Cut byteFields (s .kind) at x ⊎ Faulty byteFields (s .kind) at x) number (s .at-fault)
+    })
+
+refused-so : (bs : List ℕ) → Below 256 bs → (n offset : ℕ) (t : Bool) → ltb lengthLimit (length bs) ≡ t
+    → cond t (refusal 1 lengthLimit) (reading (length bs) (parse bytes file bs)) ≡ refusal n offset → Refused bs n offset
+refused-so bs b n offset true h e = inl (record { long = ltb-true lengthLimit (length bs) h; number-is = cc; offset-is = cc })
+refused-so bs b n offset false h e = inr (said bs b (ltb-false lengthLimit (length bs) h) (parse bytes file bs) refl n offset e)
+
+-- Behind a whole drawing, something is left.
+left-over : (total : ℕ) (d : Drawing) (rest : List ℕ) → 0 < length rest → reading total (found d rest) ≡ refusal 13 (total - length rest)
+left-over total d [] h = absurd (omega arith)
+left-over total d (b ∷ rest) h = refl
+
+-- Bytes are refused with this number and offset exactly when 01's order of faults says so.
+pub refusal-of-bytes : (bs : List ℕ) → Below 256 bs → (n offset : ℕ) → (drawingOf bs ≡ refusal n offset) ↔ Refused bs n offset
+refusal-of-bytes bs b n offset = (there, back)
+  where
+    there : drawingOf bs ≡ refusal n offset → Refused bs n offset
+    there e = refused-so bs b n offset (ltb lengthLimit (length bs)) refl e
+    back : Refused bs n offset → drawingOf bs ≡ refusal n offset
+    back (inl h) =
+        ap (λ t. cond t (refusal 1 lengthLimit) (reading (length bs) (parse bytes file bs))) (lt-ltb lengthLimit (length bs) (h .long))
+        ∙ ap₂ (λ x y. refusal x y) (sym (h .number-is)) (sym (h .offset-is))
+    back (inr (inl h)) =
+        let p = refused-stopped byteFields bytes-sensible bytes-literal file bs b n (h .back) .1 (record { fields = h .fields; kind = h .kind; asks = h .asks; split = h .split; at-fault = h .at-fault }) in
+        short-reading bs (h .short) (refused n (h .back)) p
+        ∙ ap (λ x. refusal n x) (offset-of bs (spellAll (spellFixed byteFields) (h .fields)) (h .back) (h .split) ∙ sym (h .offset-is))
+    back (inr (inr h)) =
+        let p : parse bytes file bs ≡ found (h .drawing) (h .rest) = ap (parse bytes file) (h .split) ∙ parse-encoded byteFields bytes-sensible bytes-literal file (h .drawing) (h .good) (h .rest) in
+        short-reading bs (h .short) (found (h .drawing) (h .rest)) p
+        ∙ left-over (length bs) (h .drawing) (h .rest) (h .some-left)
+        ∙ ap₂ (λ x y. refusal x y) (sym (h .number-is)) (offset-of bs (fileOf (h .drawing)) (h .rest) (h .split) ∙ sym (h .offset-is))

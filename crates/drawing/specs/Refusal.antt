@@ -1,0 +1,47 @@
+-- When bytes are refused, with which number and offset, said without reading them (01, 'Numbers given back').
+use mathlib.Core.Path.{_≡_}
+use mathlib.Core.Logic.{_⊎_}
+use Prim.Native.Nat.{ℕ, _<_, _≤_}
+use mathlib.Core.List.{List, _++_}
+use lib.ListN.{length}
+use Rattle.format.specs.Kind.{Kind, Field}
+use Rattle.format.specs.Codec.{spellAll}
+use Rattle.format.specs.FixedCodec.{byteFields, spellFixed, Cut, Faulty}
+use Rattle.format.specs.Script.{Script, end, Asks}
+use Rattle.format.specs.Format.{script}
+use Rattle.drawing.specs.Limits.{lengthLimit}
+use Rattle.drawing.specs.Drawing.{Drawing, file, fileOf}
+
+-- The file's layout as a process that asks for one field after another.
+abbrev pub fileScript : Script Drawing
+fileScript = script (file .format) (λ d. end d)
+
+pub record TooLong (bs : List ℕ) (number offset : ℕ) : Type 0 where
+  pub long : lengthLimit < length bs
+  pub number-is : number ≡ 1
+  pub offset-is : offset ≡ lengthLimit
+
+-- The bytes spell some fields, each allowed where the layout asks for it, and then stands the field at fault: cut, or with that fault.
+pub record AtField (bs : List ℕ) (number offset : ℕ) : Type 0 where
+  pub short : length bs ≤ lengthLimit
+  pub fields : List Field
+  pub kind : Kind
+  pub back : List ℕ
+  pub asks : Asks fileScript fields kind
+  pub split : bs ≡ spellAll (spellFixed byteFields) fields ++ back
+  pub offset-is : offset ≡ length (spellAll (spellFixed byteFields) fields)
+  pub at-fault : Cut byteFields kind back number ⊎ Faulty byteFields kind back number
+
+-- A whole drawing, and bytes behind it.
+pub record Trailing (bs : List ℕ) (number offset : ℕ) : Type 0 where
+  pub short : length bs ≤ lengthLimit
+  pub drawing : Drawing
+  pub rest : List ℕ
+  pub good : file .Good drawing
+  pub split : bs ≡ fileOf drawing ++ rest
+  pub some-left : 0 < length rest
+  pub number-is : number ≡ 13
+  pub offset-is : offset ≡ length (fileOf drawing)
+
+abbrev pub Refused : List ℕ → (number offset : ℕ) → Type 0
+Refused bs number offset = TooLong bs number offset ⊎ (AtField bs number offset ⊎ Trailing bs number offset)
