@@ -22,6 +22,10 @@ pub mod Refusal
 pub mod DrawingLaws
 pub mod Table
 pub mod TableDrawing
+pub mod WalkLaws
+pub mod ObjectGood
+pub mod TableLaws
 pub mod Order
+pub mod OrderLaws
 pub mod Answers
 pub mod Questions

@@ -80,26 +80,21 @@ walkGroup v each parent row p =
     onward (body (groupOwn v) groupKind parent row q) (λ own r.
     provided (eqb (own .0) n) (met (ofList os, own .1) r)))
 
-abbrev pub walkLeaf : ℕ → (kind parent : ℕ) (row : List ℕ) → Place → Walk Object
-walkLeaf v kind parent row p =
-    elim (eqb kind 2) [
-      | true ↦ leafBody (pathSpecs v & tail v) (λ (x, d). leaf (path x) d) 2 parent row p
-      | false ↦
-          elim (eqb kind 3) [
-            | true ↦ leafBody (textSpecs v & tail v) (λ (x, d). leaf (text x) d) 3 parent row p
-            | false ↦ leafBody (bitmapSpecs & tail v) (λ (x, d). leaf (bitmap x) d) 4 parent row p
-          ]
-    ]
+-- A leaf: a path, a text, or else a bitmap, as its row's kind must then be.
+abbrev pub walkLeaf : (isPath isText : Bool) → ℕ → (parent : ℕ) (row : List ℕ) → Place → Walk Object
+walkLeaf true isText v parent row p = leafBody (pathSpecs v & tail v) (λ (x, d). leaf (path x) d) 2 parent row p
+walkLeaf false true v parent row p = leafBody (textSpecs v & tail v) (λ (x, d). leaf (text x) d) 3 parent row p
+walkLeaf false false v parent row p = leafBody (bitmapSpecs & tail v) (λ (x, d). leaf (bitmap x) d) 4 parent row p
+
+abbrev pub walkKind : (isGroup : Bool) → ℕ → (Place → Walk Object) → (parent : ℕ) (row : List ℕ) → Place → Walk Object
+walkKind true v each parent row p = onward (walkGroup v each parent row p) (λ (os, d) q. met (group os d) q)
+walkKind false v each parent row p = walkLeaf (eqb (getD row 0 0) 2) (eqb (getD row 0 0) 3) v parent row p
 
 -- An object, in which groups nest at most so deep.
 abbrev pub walkObject : ℕ → ℕ → (parent : ℕ) → Place → Walk Object
-walkObject v zero parent p = onward (nextRow p) (λ row q. walkLeaf v (getD row 0 0) parent row q)
+walkObject v zero parent p = onward (nextRow p) (λ row q. walkKind false v (λ r. lost) parent row q)
 walkObject v (suc deep) parent p =
-    onward (nextRow p) (λ row q.
-    elim (eqb (getD row 0 0) groupKind) [
-      | true ↦ onward (walkGroup v (λ r. walkObject v deep (p .row) r) parent row q) (λ (os, d) r. met (group os d) r)
-      | false ↦ walkLeaf v (getD row 0 0) parent row q
-    ])
+    onward (nextRow p) (λ row q. walkKind (eqb (getD row 0 0) groupKind) v (λ r. walkObject v deep (p .row) r) parent row q)
 
 abbrev pub tableHead : Layout (ℕ × Settings)
 tableHead = field (integerIn 0 lastMinor) ▸ settings
@@ -116,7 +111,7 @@ abbrev pub wholeTable : ℕ → Settings → Walk (Objects × String) → Option
 wholeTable v s lost = none
 wholeTable v s (met t p) =
     let d : Drawing = record { version = v; settings = s; members = t .0; description = t .1 } in
-    elim (ended d p) [ true ↦ some d | false ↦ none ]
+    cond (ended d p) (some d) none
 
 abbrev pub behindHead : List ℕ → ℕ → Outcome (ℕ × Settings) → Option Drawing
 behindHead contents total (refused n at) = none

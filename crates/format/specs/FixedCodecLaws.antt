@@ -31,7 +31,7 @@ cut-short [] (suc n) h = refl
 cut-short (u ∷ us) (suc n) h = ap (Option·map (λ parts. (u ∷ parts .0, parts .1))) (cut-short us n (omega arith))
 
 -- What cutting came to says how the units lie.
-abbrev CutSays : ℕ → List ℕ → Option (List ℕ × List ℕ) → Type 0
+abbrev pub CutSays : ℕ → List ℕ → Option (List ℕ × List ℕ) → Type 0
 CutSays n us none = length us < n
 CutSays n us (some parts) = (us ≡ parts .0 ++ parts .1) × (length (parts .0) ≡ n)
 
@@ -39,7 +39,7 @@ cut-says-more : (n u : ℕ) (us : List ℕ) (o : Option (List ℕ × List ℕ)) 
 cut-says-more n u us none h = omega arith
 cut-says-more n u us (some parts) h = (ap {B = List ℕ} (λ l. u ∷ l) (h .0), ap suc (h .1))
 
-cut-says : (n : ℕ) (us : List ℕ) → CutSays n us (cut n us)
+pub cut-says : (n : ℕ) (us : List ℕ) → CutSays n us (cut n us)
 cut-says zero us = (refl, refl)
 cut-says (suc n) [] = omega arith
 cut-says (suc n) (u ∷ us) = cut-says-more n u us (cut n us) (cut-says n us)
