@@ -48,6 +48,7 @@ drawing-of-bytes bs b d = (there, back)
         let s = parsed-good byteFields bytes-sensible bytes-literal file bs b d [] (j .1) in
         let same : bs ≡ fileOf d = s .1 ∙ append-nil (fileOf d) in
         (record { good = s .0; short = rw same at (j .0) }, same)
+
     back : Acceptable d × (bs ≡ fileOf d) → drawingOf bs ≡ drawing d
     back (a, e) =
         ap drawingOf e
@@ -74,7 +75,7 @@ said bs b short (found d (x ∷ rest)) p n offset e =
       split = s .1;
       some-left = omega arith;
       number-is = cc;
-      offset-is = sym q ∙ offset-of bs (fileOf d) (x ∷ rest) (s .1)
+      offset-is = sym q ∙ offset-of bs (fileOf d) (x ∷ rest) (s .1);
     })
 said bs b short (refused m at) p n offset e =
     let s = refused-stopped byteFields bytes-sensible bytes-literal file bs b m at .0 p in
@@ -88,7 +89,7 @@ said bs b short (refused m at) p n offset e =
       asks = s .asks;
       split = s .split;
       offset-is = sym q ∙ offset-of bs (spellAll (spellFixed byteFields) (s .fields)) at (s .split);
-      at-fault = subst (λ x. Cut byteFields (s .kind) at x ⊎ Faulty byteFields (s .kind) at x) number (s .at-fault)
+      at-fault = subst (λ x. Cut byteFields (s .kind) at x ⊎ Faulty byteFields (s .kind) at x) number (s .at-fault);
     })
 
 refused-so : (bs : List ℕ) → Below 256 bs → (n offset : ℕ) (t : Bool) → ltb lengthLimit (length bs) ≡ t
@@ -107,6 +108,7 @@ refusal-of-bytes bs b n offset = (there, back)
   where
     there : drawingOf bs ≡ refusal n offset → Refused bs n offset
     there e = refused-so bs b n offset (ltb lengthLimit (length bs)) refl e
+
     back : Refused bs n offset → drawingOf bs ≡ refusal n offset
     back (inl h) =
         ap (λ t. cond t (refusal 1 lengthLimit) (reading (length bs) (parse bytes file bs))) (lt-ltb lengthLimit (length bs) (h .long))

@@ -43,7 +43,7 @@ flag-one v a e = let h = flag-below v a in let n = eqb-false v 0 e in omega arit
 pub char-passes : (allowed : ℕ → Bool) (c : ℕ) → Allowed (charWhere allowed) c → allowed c ≡ true
 char-passes allowed c a = unless-none (allowed c) 7 (a .faultless)
 
-and-both : (a b : Bool) → (a && b) ≡ true → (a ≡ true) × (b ≡ true)
+pub and-both : (a b : Bool) → (a && b) ≡ true → (a ≡ true) × (b ≡ true)
 and-both true b e = (refl, e)
 and-both false b e = let z : _≡_ {A = Bool} false true = e in (cc, cc)
 

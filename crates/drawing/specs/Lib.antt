@@ -24,6 +24,9 @@ pub mod Table
 pub mod TableDrawing
 pub mod WalkLaws
 pub mod ObjectGood
+pub mod WalkComplete
+pub mod WalkSound
+pub mod FileGood
 pub mod TableLaws
 pub mod Order
 pub mod OrderLaws

@@ -101,7 +101,7 @@ tableHead = field (integerIn 0 lastMinor) ▸ settings
 
 -- The outer group, behind the head.
 abbrev pub walkOuter : ℕ → Place → Walk (Objects × String)
-walkOuter v p = onward (nextRow p) (λ row q. walkGroup v (λ r. walkObject v (depthLimit - 1) 0 r) 0 row q)
+walkOuter v p = onward (nextRow p) (λ row q. walkGroup v (λ r. walkObject v (depthLimit - 1) (p .row) r) 0 row q)
 
 -- The table was walked to its end, and the drawing's file is not too long.
 abbrev pub ended : Drawing → Place → Bool

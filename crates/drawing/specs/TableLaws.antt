@@ -1,252 +1,170 @@
 -- Demand 2 for tables: the drawing of this table is d exactly when d is acceptable and the table is d's.
-use mathlib.Core.Path.{_≡_, refl, sym, ap, ap₂, _∙_, subst, subst₂, subst₃}
+use mathlib.Core.Path.{_≡_, refl, sym, ap, ap₂, _∙_, subst, subst₂}
 use mathlib.Core.Logic.{_↔_}
 use mathlib.Core.Bool.{Bool, true, false, cond, _&&_}
-use mathlib.Core.Option.{Option, none, some}
-use Prim.Native.Nat.{ℕ, zero, suc, _+_, _-_, _*_, _%_, _/_, _^_, _<_, _≤_}
-use mathlib.Core.List.{List, [], _∷_, _++_, append-nil, append-assoc}
-use lib.ListN.{length, getD, length-append}
-use lib.Seq.{getD-append-seam}
-use lib.Dec.{eqb, leb}
+use mathlib.Core.Option.{Option, none, some, Option·some-injective, Option·none-ne-some}
+use Prim.Native.Nat.{ℕ, suc, _+_, _-_, _%_, _/_, _^_, _<_, _≤_}
+use mathlib.Core.List.{List, [], _∷_, _++_, append-nil}
+use lib.ListN.{length}
+use lib.Dec.{leb}
 use native.Mathlib.Omega.{arith}
-use native.Mathlib.Nat as Nat
-use native.Mathlib.Numerals.{add-one}
-use borrow.Author.Tests.{eqb-true, eq-eqb, leb-true, le-leb}
+use borrow.Author.Tests.{leb-true, le-leb}
 use Rattle.format.specs.Digits.{Below}
-use Rattle.format.specs.Kind.{Allowed}
 use Rattle.format.specs.Codec.{Outcome, found, refused, spellAll}
 use Rattle.format.specs.FixedCodec.{words, wordFields, spellFixed}
-use Rattle.format.specs.FixedCodecLaws.{words-sensible, words-literal}
-use Rattle.format.specs.Format.{Each, fields}
-use Rattle.format.specs.FormatLaws.{each-length}
-use Rattle.format.specs.Layout.{Layout, parse, encode, _&_}
+use Rattle.format.specs.FixedCodecLaws.{words-sensible, words-literal, below-behind}
+use Rattle.format.specs.Layout.{Layout, parse}
 use Rattle.format.specs.FixedLayoutLaws.{parse-encoded, parsed-good}
+use Rattle.drawing.specs.Limits.{lengthLimit, depthLimit}
+use Rattle.format.specs.Kind.{Allowed}
 use Rattle.drawing.specs.Fields.{count}
+use Rattle.drawing.specs.FieldLaws.{and-both}
 use Rattle.drawing.specs.String.{String}
-use Rattle.drawing.specs.Path.{path as pathSpecs}
-use Rattle.drawing.specs.Text.{text as textSpecs}
-use Rattle.drawing.specs.Bitmap.{bitmap as bitmapSpecs}
-use Rattle.drawing.specs.Object.{Leaf, path, text, bitmap, Object, leaf, group, Objects, none, more, listOf, ofList}
-use Rattle.drawing.specs.ObjectLayout.{object, tail, groupBody}
-use Rattle.drawing.specs.ObjectLaws.{list-of-list}
-use Rattle.drawing.specs.ObjectGood.{GoodLeaf, leaf-good, good-leaf, group-good, good-group, no-group}
-use Rattle.drawing.specs.Table as Table
-use Rattle.drawing.specs.Table.{wordsOf, leafKind, leafWords, groupKind, groupOwn, groupWords, howMany, rows, rowsAll, bodies, bodiesAll, row, contents, contentsAll, contentsOf, bodiesOf}
-use Rattle.drawing.specs.TableDrawing.{Place, Walk, met, lost, onward, provided, same, nextRow, body, leafBody, walkMany, walkGroup, walkLeaf, walkKind, walkObject}
-use Rattle.drawing.specs.WalkLaws.{same-refl, same-true, body-met, Holding, holding-onward, holding-provided, Over, over-both, over-below, RowMet, next-row-holds, BodyMet, body-holds, leaf-over, group-over}
+use Rattle.drawing.specs.Settings.{Settings, settings}
+use Rattle.drawing.specs.Object.{Object, Objects, group, listOf, ofList}
+use Rattle.drawing.specs.ObjectLayout.{object, groupBody}
+use Rattle.drawing.specs.Drawing.{Drawing, outer, file, fileOf, Acceptable}
+use Rattle.drawing.specs.FileGood.{Parts, file-parts, parts-file}
+use Rattle.drawing.specs.Table.{wordsOf, groupKind, groupOwn, groupWords, howMany, rows, rowsAll, bodies, bodiesAll, row, contents, contentsAll, headWords, contentsOf, bodiesOf}
+use Rattle.drawing.specs.TableDrawing.{Place, Walk, met, lost, onward, same, nextRow, walkGroup, walkObject, tableHead, walkOuter, ended, wholeTable, behindHead, drawingOfTable}
+use Rattle.drawing.specs.WalkLaws.{same-true, words-used, Holding, holding-onward, RowMet, next-row-holds}
+use Rattle.drawing.specs.WalkComplete.{place, one-word, how-many, objects-of-list, group-met, walk-many, next-row, next-word}
+use Rattle.drawing.specs.WalkSound.{GroupMet, group-holds, object-holds, row-below}
 
--- A place, by its four parts.
-abbrev place : ℕ → List ℕ → ℕ → List ℕ → Place
-place own C at B = record { row = own; contents = C; at = at; bodies = B }
+-- A table is this drawing's.
+pub record IsTable (contents bodies : List ℕ) (d : Drawing) : Type 0 where
+  pub acceptable : Acceptable d
+  pub contents-are : contents ≡ contentsOf d
+  pub bodies-are : bodies ≡ bodiesOf d
 
--- ---- a drawing's table is walked to its drawing
+-- The head's words are those of the table's own head.
+head-words : (d : Drawing) → Parts d → wordsOf tableHead (d .version, d .settings) ≡ headWords d
+head-words d g = ap {B = List ℕ} (λ w. w ∷ wordsOf (settings (d .version)) (d .settings)) (one-word (d .version) (g .version .fits))
 
-leaf-met : {A : Type 0} (L : Layout A) (make : A → Object) (a : A) → L .Good a → (kind parent own at : ℕ) (C B : List ℕ)
-    → leafBody L make kind parent (row kind parent at (wordsOf L a)) (place own C at (wordsOf L a ++ B)) ≡ met (make a) (place own C (at + length (wordsOf L a)) B)
-leaf-met L make a g kind parent own at C B = ap (λ w. onward w (λ x q. met (make x) q)) (body-met L a g kind parent own at C B)
+-- ---- a drawing's table has that drawing
 
-walk-leaf : (l : Leaf) (d : String) (v deep parent own at : ℕ) (C B : List ℕ) → GoodLeaf v l d
-    → walkObject v deep parent (place own (contents (leaf l d) v parent own at ++ C) at (leafWords v l d ++ B))
-    ≡ met (leaf l d) (place (suc own) C (at + length (leafWords v l d)) B)
-walk-leaf (path x) d v zero parent own at C B g = leaf-met (pathSpecs v & tail v) (λ (x, d). leaf (path x) d) (x, d) g 2 parent (suc own) at C B
-walk-leaf (text x) d v zero parent own at C B g = leaf-met (textSpecs v & tail v) (λ (x, d). leaf (text x) d) (x, d) g 3 parent (suc own) at C B
-walk-leaf (bitmap x) d v zero parent own at C B g = leaf-met (bitmapSpecs & tail v) (λ (x, d). leaf (bitmap x) d) (x, d) g 4 parent (suc own) at C B
-walk-leaf (path x) d v (suc deep) parent own at C B g = leaf-met (pathSpecs v & tail v) (λ (x, d). leaf (path x) d) (x, d) g 2 parent (suc own) at C B
-walk-leaf (text x) d v (suc deep) parent own at C B g = leaf-met (textSpecs v & tail v) (λ (x, d). leaf (text x) d) (x, d) g 3 parent (suc own) at C B
-walk-leaf (bitmap x) d v (suc deep) parent own at C B g = leaf-met (bitmapSpecs & tail v) (λ (x, d). leaf (bitmap x) d) (x, d) g 4 parent (suc own) at C B
+one-more : (n : ℕ) → 1 + n ≡ suc n
+one-more n = omega arith
 
--- The count in a group's body, found by where its row says that the body begins.
-first-word : (at w : ℕ) (bs rest B : List ℕ) → getD (bs ++ (w ∷ rest) ++ B) (at + length bs - at) 0 ≡ w
-first-word at w bs rest B =
-    let place : at + length bs - at ≡ length bs = omega arith in
-    rw (place, append-assoc bs (w ∷ rest) B) (getD-append-seam bs w (rest ++ B) 0)
+outer-met : (d : Drawing) → Parts d → (at : ℕ)
+    → walkOuter (d .version) (place 0 (contents (outer d) (d .version) 0 0 at) at (bodies (outer d) (d .version)))
+    ≡ met (d .members, d .description) (place (rows (outer d)) [] (at + length (bodies (outer d) (d .version))) [])
+outer-met d g at =
+    let v = d .version in
+    let os = d .members in
+    let bs = bodiesAll os v in
+    let gw = groupWords v (howMany os) (d .description) in
+    let own-good : groupOwn v .Good (howMany os, d .description) = (subst (Allowed (count 1)) (how-many os) (g .outer .0 .1 .0), g .outer .1) in
+    ap₂ (λ c b. walkGroup v (λ r. walkObject v (depthLimit - 1) 0 r) 0 (row groupKind 0 (at + length bs) gw) (place 1 c at b))
+    (sym (append-nil (contentsAll os v 0 1 at))) (sym (append-nil (bs ++ gw)))
+    ∙ group-met v (howMany os) (d .description) own-good (λ r. walkObject v (depthLimit - 1) 0 r) (listOf os) 0 1 (1 + rowsAll os) at (contentsAll os v 0 1 at ++ []) [] bs []
+    (walk-many os v (depthLimit - 1) 0 1 at [] (gw ++ []) (g .outer .0 .1 .1))
+    ∙ ap (λ xs. met (xs, d .description) (place (1 + rowsAll os) [] (at + length bs + length gw) [])) (objects-of-list os)
+    ∙ ap₂ (λ m k. met (os, d .description) (place m [] k [])) (one-more (rowsAll os)) (next-word at bs gw)
 
-one-word : (n : ℕ) → n < 256 ^ 4 → n / 1 % 2 ^ 32 ≡ n
-one-word n h = rw Nat.div-one (Nat.mod-eq-of-lt h)
+pub table-complete : (d : Drawing) → Acceptable d → drawingOfTable (contentsOf d) (bodiesOf d) ≡ some d
+table-complete d a =
+    let v = d .version in
+    let parts = file-parts d (a .good) in
+    let bs = bodies (outer d) v in
+    ap (behindHead (contentsOf d) (length (bodiesOf d)))
+    (ap (λ h. parse words tableHead (h ++ bs)) (sym (head-words d parts))
+    ∙ parse-encoded wordFields words-sensible words-literal tableHead (v, d .settings) (parts .version, parts .settings) bs)
+    ∙ ap (λ at. wholeTable v (d .settings) (walkOuter v (place 0 (contentsOf d) at bs))) (words-used (headWords d) bs)
+    ∙ ap (wholeTable v (d .settings)) (outer-met d parts (length (headWords d)))
+    ∙ ap (λ t. cond t (some d) none) (le-leb (length (fileOf d)) lengthLimit (a .short))
 
-guessed : (v n : ℕ) (d : String) (at : ℕ) (bs B : List ℕ) → Allowed (count 1) n → getD (bs ++ groupWords v n d ++ B) (at + length bs - at) 0 ≡ n
-guessed v n d at bs B a =
-    first-word at (n / 1 % 2 ^ 32) bs (spellAll (spellFixed wordFields) (fields (tail v .format) d)) B ∙ one-word n (a .fits)
+-- ---- what has a drawing is its table
 
--- A group with so many objects, behind whatever has walked over them.
-abbrev counted : ℕ → ℕ → (Place → Walk Object) → (parent : ℕ) (row : List ℕ) → Place → Walk (Objects × String)
-counted n v each parent row p =
-    onward (walkMany n each p) (λ os q.
-    onward (body (groupOwn v) groupKind parent row q) (λ own r.
-    provided (eqb (own .0) n) (met (ofList os, own .1) r)))
+outer-holds : (v : ℕ) (p : Place) → Below (2 ^ 32) (p .bodies) → Holding (GroupMet v (depthLimit - 1) 0 p) (walkOuter v p)
+outer-holds v p b =
+    holding-onward (RowMet p) (GroupMet v (depthLimit - 1) 0 p) (nextRow p) (λ row q. walkGroup v (λ r. walkObject v (depthLimit - 1) (p .row) r) 0 row q) (next-row-holds p)
+    (λ row q h.
+    group-holds v (depthLimit - 1) 0 (λ r. walkObject v (depthLimit - 1) (p .row) r) p q row h
+    (λ r c. object-holds v (depthLimit - 1) (p .row) r c)
+    (row-below p q row h b))
 
-group-met : (v n : ℕ) (d : String) → groupOwn v .Good (n, d) → (each : Place → Walk Object) (os : List Object) (parent own own′ at : ℕ) (X C bs B : List ℕ)
-    → walkMany n each (place own X at (bs ++ (groupWords v n d ++ B))) ≡ met os (place own′ C (at + length bs) (groupWords v n d ++ B))
-    → walkGroup v each parent (row groupKind parent (at + length bs) (groupWords v n d)) (place own X at (bs ++ groupWords v n d ++ B))
-    ≡ met (ofList os, d) (place own′ C (at + length bs + length (groupWords v n d)) B)
-group-met v n d g each os parent own own′ at X C bs B many =
-    let gw = groupWords v n d in
-    let r = row groupKind parent (at + length bs) gw in
-    ap (λ m. counted m v each parent r (place own X at (bs ++ gw ++ B))) (guessed v n d at bs B (g .0))
-    ∙ ap (λ l. counted n v each parent r (place own X at l)) (append-assoc bs gw B)
-    ∙ ap (λ w. onward w (λ xs q. onward (body (groupOwn v) groupKind parent r q) (λ o s. provided (eqb (o .0) n) (met (ofList xs, o .1) s)))) many
-    ∙ ap (λ w. onward w (λ o s. provided (eqb (o .0) n) (met (ofList os, o .1) s))) (body-met (groupOwn v) (n, d) g groupKind parent own′ (at + length bs) C B)
-    ∙ ap (λ t. provided t (met (ofList os, d) (place own′ C (at + length bs + length gw) B))) (eq-eqb n n refl)
+-- What an ended walk says.
+ended-says : (c b : List ℕ) (n : ℕ) → (same c [] && same b [] && leb n lengthLimit) ≡ true → (c ≡ []) × (b ≡ []) × (n ≤ lengthLimit)
+ended-says c b n e =
+    let x = and-both (same c [] && same b []) (leb n lengthLimit) e in
+    let y = and-both (same c []) (same b []) (x .0) in
+    (same-true c [] (y .0), same-true b [] (y .1), leb-true n lengthLimit (x .1))
 
-pub how-many : (os : Objects) → length (listOf os) ≡ howMany os
-how-many none = refl
-how-many (more o os) = ap suc (how-many os)
+kept : (d e : Drawing) (t : Bool) → cond t (some d) none ≡ some e → (t ≡ true) × (d ≡ e)
+kept d e true p = (refl, cc)
+kept d e false p = let z : _≡_ {A = ℕ} 0 1 = cc in absurd (omega arith)
 
-pub objects-of-list : (os : Objects) → ofList (listOf os) ≡ os
-objects-of-list none = refl
-objects-of-list (more o os) = ap (λ l. more o l) (objects-of-list os)
+-- What the walk behind a head says of the drawing that it gave.
+record Said (v : ℕ) (s : Settings) (p : Place) (d : Drawing) : Type 0 where
+  version-is : d .version ≡ v
+  settings-are : d .settings ≡ s
+  contents-are : p .contents ≡ contents (outer d) v 0 0 (p .at)
+  bodies-are : p .bodies ≡ bodies (outer d) v
+  good : groupBody v (object v (depthLimit - 1)) .Good (d .members, d .description)
+  short : length (fileOf d) ≤ lengthLimit
 
-abbrev AllGood : ℕ → ℕ → Objects → Type 0
-AllGood v deep os = Each {S = Unit {0}} (λ s. object v deep .Good) (λ s a. s) (length (listOf os)) tt (listOf os)
+whole-said : (v : ℕ) (s : Settings) (at : ℕ) (C B : List ℕ) (w : Walk (Objects × String)) → Holding (GroupMet v (depthLimit - 1) 0 (place 0 C at B)) w
+    → (d : Drawing) → wholeTable v s w ≡ some d → Said v s (place 0 C at B) d
+whole-said v s at C B lost h d e = let z : _≡_ {A = ℕ} 0 1 = cc in absurd (omega arith)
+whole-said v s at C B (met t q) h d e =
+    let D : Drawing = record { version = v; settings = s; members = t .0; description = t .1 } in
+    let k = kept D d (ended D q) e in
+    let x = ended-says (q .contents) (q .bodies) (length (fileOf D)) (k .0) in
+    subst (Said v s (place 0 C at B)) (k .1)
+    (record {
+      version-is = refl;
+      settings-are = refl;
+      contents-are = h .over .contents ∙ ap (λ l. contents (outer D) v 0 0 at ++ l) (x .0) ∙ append-nil (contents (outer D) v 0 0 at);
+      bodies-are = h .over .bodies ∙ ap (λ l. bodies (outer D) v ++ l) (x .1) ∙ append-nil (bodies (outer D) v);
+      good = h .good;
+      short = x .2;
+    })
 
-next-row : (own n : ℕ) → suc own + n ≡ own + suc n
-next-row own n = omega arith
-
-next-word : (at : ℕ) (bs cs : List ℕ) → at + length bs + length cs ≡ at + length (bs ++ cs)
-next-word at bs cs = rw length-append (Nat.add-assoc at (length bs) (length cs))
-
-mutual
-  walk-object : (o : Object) (v deep parent own at : ℕ) (C B : List ℕ) → object v deep .Good o
-      → walkObject v deep parent (place own (contents o v parent own at ++ C) at (bodies o v ++ B))
-      ≡ met o (place (own + rows o) C (at + length (bodies o v)) B)
-  walk-object (leaf l d) v deep parent own at C B g =
-      walk-leaf l d v deep parent own at C B (good-leaf v deep l d g)
-      ∙ ap (λ m. met (leaf l d) (place m C (at + length (leafWords v l d)) B)) (sym (add-one own))
-  walk-object (group os d) v zero parent own at C B g = absurd (no-group v os d g)
-  walk-object (group os d) v (suc deep) parent own at C B g =
-      let b = good-group v deep os d g in
-      let own-good : groupOwn v .Good (howMany os, d) = (rw (how-many os) at (b .0 .1 .0), b .1) in
-      let gw = groupWords v (howMany os) d in
-      let m = walk-many os v deep own (suc own) at C (gw ++ B) (b .0 .1 .1) in
-      ap (λ w. onward w (λ (xs, e) q. met (group xs e) q))
-      (group-met v (howMany os) d own-good (λ r. walkObject v deep own r) (listOf os) parent (suc own) (suc own + rowsAll os) at (contentsAll os v own (suc own) at ++ C) C (bodiesAll os v) B m)
-      ∙ ap (λ xs. met (group xs d) (place (suc own + rowsAll os) C (at + length (bodiesAll os v) + length gw) B)) (objects-of-list os)
-      ∙ ap₂ (λ m k. met (group os d) (place m C k B)) (next-row own (rowsAll os)) (next-word at (bodiesAll os v) gw)
-
-  walk-many : (os : Objects) (v deep parent own at : ℕ) (C B : List ℕ) → AllGood v deep os
-      → walkMany (howMany os) (λ r. walkObject v deep parent r) (place own (contentsAll os v parent own at ++ C) at (bodiesAll os v ++ B))
-      ≡ met (listOf os) (place (own + rowsAll os) C (at + length (bodiesAll os v)) B)
-  walk-many none v deep parent own at C B g = ap₂ (λ m k. met [] (place m C k B)) (sym (Nat.add-zero own)) (sym (Nat.add-zero at))
-  walk-many (more o os) v deep parent own at C B g =
-      let cs = contentsAll os v parent (own + rows o) (at + length (bodies o v)) in
-      ap₂ (λ c b. onward (walkObject v deep parent (place own c at b)) (λ x q. onward (walkMany (howMany os) (λ r. walkObject v deep parent r) q) (λ xs r. met (x ∷ xs) r)))
-      (append-assoc (contents o v parent own at) cs C) (append-assoc (bodies o v) (bodiesAll os v) B)
-      ∙ ap (λ w. onward w (λ x q. onward (walkMany (howMany os) (λ r. walkObject v deep parent r) q) (λ xs r. met (x ∷ xs) r)))
-      (walk-object o v deep parent own at (cs ++ C) (bodiesAll os v ++ B) (g .0))
-      ∙ ap (λ w. onward w (λ xs r. met (o ∷ xs) r)) (walk-many os v deep parent (own + rows o) (at + length (bodies o v)) C B (g .1))
-      ∙ ap₂ (λ m k. met (o ∷ listOf os) (place m C k B)) (Nat.add-assoc own (rows o) (rowsAll os)) (next-word at (bodies o v) (bodiesAll os v))
-
--- ---- what is walked over is a good drawing's table
-
-pub record ObjectMet (v deep parent : ℕ) (p : Place) (o : Object) (q : Place) : Type 0 where
-  pub good : object v deep .Good o
-  pub over : Over p q (rows o) (contents o v parent (p .row) (p .at)) (bodies o v)
-
-pub record ManyMet (v deep parent n : ℕ) (p : Place) (os : List Object) (q : Place) : Type 0 where
-  pub good : Each {S = Unit {0}} (λ s. object v deep .Good) (λ s a. s) n tt os
-  pub over : Over p q (rowsAll (ofList os)) (contentsAll (ofList os) v parent (p .row) (p .at)) (bodiesAll (ofList os) v)
-
-many-more : (v deep parent n : ℕ) (p q r : Place) (o : Object) (os : List Object) → ObjectMet v deep parent p o q → ManyMet v deep parent n q os r → ManyMet v deep parent (suc n) p (o ∷ os) r
-many-more v deep parent n p q r o os g h =
+assembled : (d : Drawing) (c bs rest : List ℕ) → tableHead .Good (d .version, d .settings) → bs ≡ wordsOf tableHead (d .version, d .settings) ++ rest
+    → Said (d .version) (d .settings) (place 0 c (length bs - length rest) rest) d → IsTable c bs d
+assembled d c bs rest g split said =
+    let parts : Parts d = record { version = g .0; settings = g .1; outer = said .good } in
+    let W = wordsOf tableHead (d .version, d .settings) in
+    let at : length bs - length rest ≡ length (headWords d) = ap (λ l. length l - length rest) split ∙ words-used W rest ∙ ap length (head-words d parts) in
     record {
-      good = (g .good, h .good);
-      over =
-        subst₂ (λ own at. Over p r (rows o + rowsAll (ofList os)) (contents o v parent (p .row) (p .at) ++ contentsAll (ofList os) v parent own at) (bodies o v ++ bodiesAll (ofList os) v))
-        (g .over .row) (g .over .at)
-        (over-both p q r (rows o) (rowsAll (ofList os)) (contents o v parent (p .row) (p .at)) (contentsAll (ofList os) v parent (q .row) (q .at)) (bodies o v) (bodiesAll (ofList os) v) (g .over) (h .over))
+      acceptable = record { good = parts-file d parts; short = said .short };
+      contents-are = said .contents-are ∙ ap (contents (outer d) (d .version) 0 0) at;
+      bodies-are = split ∙ ap₂ _++_ (head-words d parts) (said .bodies-are);
     }
 
-many-holds : (v deep parent : ℕ) (each : Place → Walk Object) → ((p : Place) → Below (2 ^ 32) (p .bodies) → Holding (ObjectMet v deep parent p) (each p))
-    → (n : ℕ) (p : Place) → Below (2 ^ 32) (p .bodies) → Holding (ManyMet v deep parent n p) (walkMany n each p)
-many-holds v deep parent each h zero p b =
-    record { good = tt; over = record { row = sym (Nat.add-zero (p .row)); contents = refl; at = sym (Nat.add-zero (p .at)); bodies = refl } }
-many-holds v deep parent each h (suc n) p b =
-    holding-onward (ObjectMet v deep parent p) (ManyMet v deep parent (suc n) p) (each p) (λ o q. onward (walkMany n each q) (λ os r. met (o ∷ os) r)) (h p b)
-    (λ o q g.
-      holding-onward (ManyMet v deep parent n q) (ManyMet v deep parent (suc n) p) (walkMany n each q) (λ os r. met (o ∷ os) r)
-      (many-holds v deep parent each h n q (over-below p q (rows o) (contents o v parent (p .row) (p .at)) (bodies o v) (g .over) b))
-      (λ os r m. many-more v deep parent n p q r o os g m))
+head-said : (c bs : List ℕ) → Below (2 ^ 32) bs → (o : Outcome (ℕ × Settings)) → parse words tableHead bs ≡ o → (d : Drawing)
+    → behindHead c (length bs) o ≡ some d → IsTable c bs d
+head-said c bs b (refused n at) p d e = let z : _≡_ {A = ℕ} 0 1 = cc in absurd (omega arith)
+head-said c bs b (found h rest) p d e =
+    let g = parsed-good wordFields words-sensible words-literal tableHead bs b h rest p in
+    let at = length bs - length rest in
+    let below = below-behind (2 ^ 32) (wordsOf tableHead h) rest (subst (Below (2 ^ 32)) (g .1) b) in
+    let said = whole-said (h .0) (h .1) at c rest (walkOuter (h .0) (place 0 c at rest)) (outer-holds (h .0) (place 0 c at rest) below) d e in
+    let t =
+    subst₂ (λ v s. tableHead .Good (v, s) × (bs ≡ wordsOf tableHead (v, s) ++ rest) × Said v s (place 0 c at rest) d)
+    (sym (said .version-is)) (sym (said .settings-are)) (g .0, g .1, said) in
+    assembled d c bs rest (t .0) (t .1) (t .2)
 
-pub record GroupMet (v deep parent : ℕ) (p : Place) (t : Objects × String) (q : Place) : Type 0 where
-  pub good : groupBody v (object v deep) .Good t
-  pub over : Over p q (rows (group (t .0) (t .1))) (contents (group (t .0) (t .1)) v parent (p .row) (p .at)) (bodies (group (t .0) (t .1)) v)
+-- The drawing of this table is d exactly when d is acceptable and contents and bodies are d's table.
+pub drawing-of-table : (c bs : List ℕ) → Below (2 ^ 32) bs → (d : Drawing) → (drawingOfTable c bs ≡ some d) ↔ IsTable c bs d
+drawing-of-table c bs b d = (
+  λ e. head-said c bs b (parse words tableHead bs) refl d e,
+  λ t. ap₂ drawingOfTable (t .contents-are) (t .bodies-are) ∙ table-complete d (t .acceptable),
+)
 
--- Good elements, counted by their list.
-each-list : (v deep n : ℕ) (os : List Object) → Each {S = Unit {0}} (λ s. object v deep .Good) (λ s a. s) n tt os → AllGood v deep (ofList os)
-each-list v deep n os g =
-    let long : length os ≡ n = each-length {S = Unit {0}} (λ s. object v deep .Good) (λ s a. s) n tt os g in
-    subst (λ l. Each {S = Unit {0}} (λ s. object v deep .Good) (λ s a. s) (length l) tt l) (sym (list-of-list os))
-    (subst (λ m. Each {S = Unit {0}} (λ s. object v deep .Good) (λ s a. s) m tt os) (sym long) g)
+-- So no two drawings share a table.
+pub table-unique : (d e : Drawing) → Acceptable d → Acceptable e → contentsOf d ≡ contentsOf e → bodiesOf d ≡ bodiesOf e → d ≡ e
+table-unique d e a b p q =
+    Option·some-injective d e (sym (table-complete d a) ∙ ap₂ drawingOfTable p q ∙ table-complete e b)
 
--- A group's members and its own body, behind its row.
-group-of : (v deep parent n : ℕ) (row : List ℕ) (p q s r : Place) (os : List Object) (own : ℕ × String)
-    → RowMet p row q → ManyMet v deep (p .row) n q os s → BodyMet (groupOwn v) groupKind parent row s own r → own .0 ≡ n → GroupMet v deep parent p (ofList os, own .1) r
-group-of v deep parent n row p q s r os own h m b e =
-    let long : length os ≡ n = each-length {S = Unit {0}} (λ s. object v deep .Good) (λ s a. s) n tt os (m .good) in
-    let listed : length (listOf (ofList os)) ≡ own .0 = ap length (list-of-list os) ∙ long ∙ sym e in
-    let many : own .0 ≡ howMany (ofList os) = sym listed ∙ how-many (ofList os) in
-    let all = group-over (groupOwn v) groupKind parent row p q s r own (rowsAll (ofList os)) (contentsAll (ofList os) v (p .row) (q .row) (q .at)) (bodiesAll (ofList os) v) h (m .over) b in
-    record {
-      good = ((ap ofList (list-of-list os), (subst (Allowed (count 1)) (sym listed) (b .good .0), each-list v deep n os (m .good))), b .good .1);
-      over =
-        subst₃ (λ k own′ at.
-          Over p r (suc (rowsAll (ofList os)))
-          (Table.row groupKind parent (p .at + length (bodiesAll (ofList os) v)) (groupWords v k (own .1)) ++ contentsAll (ofList os) v (p .row) own′ at)
-          (bodiesAll (ofList os) v ++ groupWords v k (own .1)))
-        many (h .next) (h .at) all
-    }
+-- And a table that no acceptable file gives has no drawing.
+pub no-drawing : (c bs : List ℕ) → Below (2 ^ 32) bs → (drawingOfTable c bs ≡ none) ↔ ((d : Drawing) → IsTable c bs d → ⊥)
+no-drawing c bs b = (there, back (drawingOfTable c bs) refl)
+  where
+    there : drawingOfTable c bs ≡ none → (d : Drawing) → IsTable c bs d → ⊥
+    there e d t = Option·none-ne-some d (sym e ∙ drawing-of-table c bs b d .1 t)
 
--- The outer walk of a group, behind a row that was met.
-group-holds : (v deep parent : ℕ) (each : Place → Walk Object) (p q : Place) (row : List ℕ) → RowMet p row q
-    → ((r : Place) → Below (2 ^ 32) (r .bodies) → Holding (ObjectMet v deep (p .row) r) (each r))
-    → Below (2 ^ 32) (q .bodies) → Holding (GroupMet v deep parent p) (walkGroup v each parent row q)
-group-holds v deep parent each p q row h e b =
-    let n = getD (q .bodies) (getD row 2 0 - q .at) 0 in
-    holding-onward (ManyMet v deep (p .row) n q) (GroupMet v deep parent p) (walkMany n each q)
-    (λ os s. onward (body (groupOwn v) groupKind parent row s) (λ own r. provided (eqb (own .0) n) (met (ofList os, own .1) r)))
-    (many-holds v deep (p .row) each e n q b)
-    (λ os s m.
-      holding-onward (BodyMet (groupOwn v) groupKind parent row s) (GroupMet v deep parent p) (body (groupOwn v) groupKind parent row s)
-      (λ own r. provided (eqb (own .0) n) (met (ofList os, own .1) r))
-      (body-holds (groupOwn v) groupKind parent row s (over-below q s (rowsAll (ofList os)) (contentsAll (ofList os) v (p .row) (q .row) (q .at)) (bodiesAll (ofList os) v) (m .over) b))
-      (λ own r w.
-        holding-provided (GroupMet v deep parent p) (eqb (own .0) n) (met (ofList os, own .1) r)
-        (λ t. group-of v deep parent n row p q s r os own h m w (eqb-true (own .0) n t))))
-
-leaf-holds : {A : Type 0} (L : Layout A) (make : A → Object) (kind : ℕ) (v deep parent : ℕ) (p q : Place) (row : List ℕ) → RowMet p row q → Below (2 ^ 32) (q .bodies)
-    → ((a : A) (r : Place) → BodyMet L kind parent row q a r → ObjectMet v deep parent p (make a) r)
-    → Holding (ObjectMet v deep parent p) (leafBody L make kind parent row q)
-leaf-holds L make kind v deep parent p q row h b f =
-    holding-onward (BodyMet L kind parent row q) (ObjectMet v deep parent p) (body L kind parent row q) (λ a r. met (make a) r) (body-holds L kind parent row q b) f
-
-any-leaf-holds : (v deep parent : ℕ) (p q : Place) (row : List ℕ) (isPath isText : Bool) → RowMet p row q → Below (2 ^ 32) (q .bodies)
-    → Holding (ObjectMet v deep parent p) (walkLeaf isPath isText v parent row q)
-any-leaf-holds v deep parent p q row true isText h b =
-    leaf-holds (pathSpecs v & tail v) (λ (x, d). leaf (path x) d) 2 v deep parent p q row h b
-    (λ a r w. record { good = leaf-good v deep (path (a .0)) (a .1) (w .good); over = leaf-over (pathSpecs v & tail v) 2 parent row p q r a h w })
-any-leaf-holds v deep parent p q row false true h b =
-    leaf-holds (textSpecs v & tail v) (λ (x, d). leaf (text x) d) 3 v deep parent p q row h b
-    (λ a r w. record { good = leaf-good v deep (text (a .0)) (a .1) (w .good); over = leaf-over (textSpecs v & tail v) 3 parent row p q r a h w })
-any-leaf-holds v deep parent p q row false false h b =
-    leaf-holds (bitmapSpecs & tail v) (λ (x, d). leaf (bitmap x) d) 4 v deep parent p q row h b
-    (λ a r w. record { good = leaf-good v deep (bitmap (a .0)) (a .1) (w .good); over = leaf-over (bitmapSpecs & tail v) 4 parent row p q r a h w })
-
-row-below : (p q : Place) (row : List ℕ) → RowMet p row q → Below (2 ^ 32) (p .bodies) → Below (2 ^ 32) (q .bodies)
-row-below p q row h b = rw (h .bodies) at b
-
-kind-holds : (v deep parent : ℕ) (p q : Place) (row : List ℕ) (isGroup : Bool) → RowMet p row q → Below (2 ^ 32) (q .bodies)
-    → ((r : Place) → Below (2 ^ 32) (r .bodies) → Holding (ObjectMet v deep (p .row) r) (walkObject v deep (p .row) r))
-    → Holding (ObjectMet v (suc deep) parent p) (walkKind isGroup v (λ r. walkObject v deep (p .row) r) parent row q)
-kind-holds v deep parent p q row true h b e =
-    holding-onward (GroupMet v deep parent p) (ObjectMet v (suc deep) parent p) (walkGroup v (λ r. walkObject v deep (p .row) r) parent row q) (λ (os, d) r. met (group os d) r)
-    (group-holds v deep parent (λ r. walkObject v deep (p .row) r) p q row h e b)
-    (λ t r g. record { good = group-good v deep (t .0) (t .1) (g .good); over = g .over })
-kind-holds v deep parent p q row false h b e = any-leaf-holds v (suc deep) parent p q row (eqb (getD row 0 0) 2) (eqb (getD row 0 0) 3) h b
-
-pub object-holds : (v deep parent : ℕ) (p : Place) → Below (2 ^ 32) (p .bodies) → Holding (ObjectMet v deep parent p) (walkObject v deep parent p)
-object-holds v zero parent p b =
-    holding-onward (RowMet p) (ObjectMet v zero parent p) (nextRow p) (λ row q. walkKind false v (λ r. lost) parent row q) (next-row-holds p)
-    (λ row q h. any-leaf-holds v zero parent p q row (eqb (getD row 0 0) 2) (eqb (getD row 0 0) 3) h (row-below p q row h b))
-object-holds v (suc deep) parent p b =
-    holding-onward (RowMet p) (ObjectMet v (suc deep) parent p) (nextRow p) (λ row q. walkKind (eqb (getD row 0 0) groupKind) v (λ r. walkObject v deep (p .row) r) parent row q) (next-row-holds p)
-    (λ row q h. kind-holds v deep parent p q row (eqb (getD row 0 0) groupKind) h (row-below p q row h b) (λ r c. object-holds v deep (p .row) r c))
+    back : (o : Option Drawing) → drawingOfTable c bs ≡ o → ((d : Drawing) → IsTable c bs d → ⊥) → drawingOfTable c bs ≡ none
+    back none e h = e
+    back (some d) e h = absurd (h d (drawing-of-table c bs b d .0 e))

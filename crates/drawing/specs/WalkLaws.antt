@@ -39,7 +39,7 @@ same-true (x ∷ xs) (y ∷ ys) e =
 
 -- ---- bodies
 
-words-used : (ws B : List ℕ) → length (ws ++ B) - length B ≡ length ws
+pub words-used : (ws B : List ℕ) → length (ws ++ B) - length B ≡ length ws
 words-used ws B = rw length-append (omega arith)
 
 found-met : {A : Type 0} (a : A) (kind parent own at : ℕ) (C ws B : List ℕ)
@@ -84,7 +84,7 @@ over-both p q r m n cs ds bs es g h =
       row = rw (h .row, g .row) (Nat.add-assoc (p .row) m n);
       contents = g .contents ∙ rw (h .contents) (sym (append-assoc cs ds (r .contents)));
       at = rw (h .at, g .at, length-append) (Nat.add-assoc (p .at) (length bs) (length es));
-      bodies = g .bodies ∙ rw (h .bodies) (sym (append-assoc bs es (r .bodies)))
+      bodies = g .bodies ∙ rw (h .bodies) (sym (append-assoc bs es (r .bodies)));
     }
 
 -- What is left is made of words too.
@@ -121,11 +121,11 @@ body-holds-from L kind parent row p b (found a rest) e =
     holding-provided (BodyMet L kind parent row p) (same row (kind ∷ parent ∷ p .at ∷ n ∷ []))
     (met a (record { row = p .row; contents = p .contents; at = p .at + n; bodies = rest }))
     (λ t.
-      record {
-        good = h .0;
-        over = record { row = sym (Nat.add-zero (p .row)); contents = refl; at = ap (λ m. p .at + m) used; bodies = h .1 };
-        row-is = same-true row (kind ∷ parent ∷ p .at ∷ n ∷ []) t ∙ ap {B = List ℕ} (λ m. kind ∷ parent ∷ p .at ∷ m ∷ []) used
-      })
+    record {
+      good = h .0;
+      over = record { row = sym (Nat.add-zero (p .row)); contents = refl; at = ap (λ m. p .at + m) used; bodies = h .1 };
+      row-is = same-true row (kind ∷ parent ∷ p .at ∷ n ∷ []) t ∙ ap {B = List ℕ} (λ m. kind ∷ parent ∷ p .at ∷ m ∷ []) used;
+    })
 
 pub body-holds : {A : Type 0} (L : Layout A) (kind parent : ℕ) (row : List ℕ) (p : Place) → Below (2 ^ 32) (p .bodies) → Holding (BodyMet L kind parent row p) (body L kind parent row p)
 body-holds L kind parent row p b = body-holds-from L kind parent row p b (parse words L (p .bodies)) refl
@@ -140,7 +140,7 @@ leaf-over L kind parent row p q r a h b =
       row = b .over .row ∙ rw (h .next) (omega arith);
       contents = h .contents ∙ ap₂ _++_ row-is (b .over .contents);
       at = b .over .at ∙ ap (λ m. m + length (wordsOf L a)) (h .at);
-      bodies = h .bodies ∙ b .over .bodies
+      bodies = h .bodies ∙ b .over .bodies;
     }
 
 -- A group's row tells of the body behind those of its members.
@@ -155,5 +155,5 @@ group-over L kind parent row p q s r a n cs bs h m b =
       row = all .row ∙ rw (h .next) (omega arith);
       contents = h .contents ∙ ap₂ _++_ row-is (all .contents ∙ ap (λ l. l ++ r .contents) (append-nil cs));
       at = all .at ∙ ap (λ x. x + length (bs ++ wordsOf L a)) (h .at);
-      bodies = h .bodies ∙ all .bodies
+      bodies = h .bodies ∙ all .bodies;
     }

@@ -47,7 +47,7 @@ module _ (F : Fixed) (S : Sensible F) (lit : Literal F) where
         kind = h .kind;
         asks = h .asks;
         split = rw (← f, h .stops .0) (h .split);
-        at-fault = rw (h .stops .0) (h .stops .1)
+        at-fault = rw (h .stops .0) (h .stops .1);
       }
 
   stopped-halt : {R : Type 0} (s : Script R) (us : List ℕ) (n : ℕ) (at : List ℕ) → Stopped F s us n at → Halt (fixed F) s us n at
@@ -60,7 +60,7 @@ module _ (F : Fixed) (S : Sensible F) (lit : Literal F) where
         asks = h .asks;
         split = h .split;
         spelled = spelled-all (fixed F) (spellFixed F) (fixed-writes F S) (h .fields) at (asks-allowed s (h .fields) (h .kind) (h .asks));
-        stops = (refl, h .at-fault)
+        stops = (refl, h .at-fault);
       }
 
   -- A refusal is a run of good fields, and then one that is cut or at fault.

@@ -33,12 +33,13 @@ asks-allowed (ask k′ next) (f ∷ fs) k e = (rw (e .0) (e .1), asks-allowed (n
 -- Allowed fields can be written.
 pub spelled-all : (C : Codec) (spell : Spelling) → Writes C spell → (fs : List Field) (rest : List ℕ) → AllAllowed fs → Spelled C fs (spellAll spell fs) rest
 spelled-all C spell w [] rest a = refl
-spelled-all C spell w (f ∷ fs) rest a =
-    ( spell (f .kind) (f .value)
-    , spellAll spell fs
-    , refl
-    , w (f .kind) (f .value) (spellAll spell fs ++ rest) (a .0)
-    , spelled-all C spell w fs rest (a .1) )
+spelled-all C spell w (f ∷ fs) rest a = (
+  spell (f .kind) (f .value),
+  spellAll spell fs,
+  refl,
+  w (f .kind) (f .value) (spellAll spell fs ++ rest) (a .0),
+  spelled-all C spell w fs rest (a .1),
+)
 
 -- Where a value has one spelling only, units that spell fields are the written ones.
 pub spelled-strict : (C : Codec) (spell : Spelling) → Strict C spell → (fs : List Field) (us rest : List ℕ) → Spelled C fs us rest → us ≡ spellAll spell fs

@@ -1,0 +1,69 @@
+-- When a drawing is good, by its parts, as a table's head and outer group show them.
+use mathlib.Core.Path.{_≡_, refl, sym, ap, _∙_}
+use mathlib.Core.Bool.{Bool, true, false, _&&_}
+use mathlib.Core.Option.{Option, none}
+use Prim.Native.Nat.{ℕ, zero, suc, _+_, _-_, _^_, _<_, _≤_}
+use Prim.Native.Char.{code}
+use lib.Dec.{leb}
+use native.Mathlib.Omega.{arith}
+use borrow.Author.Tests.{leb-true, le-leb}
+use mir.Syntax.{w32}
+use mir.Val.{toZ}
+use Rattle.format.specs.Kind.{Allowed}
+use Rattle.drawing.specs.Limits.{lastMinor, depthLimit}
+use Rattle.drawing.specs.Fields.{unless, inRange, integerIn, versionChars, versionZero}
+use Rattle.drawing.specs.FieldLaws.{unless-none, in-range, and-both}
+use Rattle.drawing.specs.Settings.{settings}
+use Rattle.drawing.specs.ObjectLayout.{object, groupBody}
+use Rattle.drawing.specs.Drawing.{Drawing, file}
+
+small : (v : ℕ) → v ≤ 4 → inRange 0 4 (toZ w32 v) ≡ true
+small zero h = refl
+small (suc zero) h = refl
+small (suc (suc zero)) h = refl
+small (suc (suc (suc zero))) h = refl
+small (suc (suc (suc (suc zero)))) h = refl
+small (suc (suc (suc (suc (suc n))))) h = absurd (omega arith)
+
+-- The minor version number of a table, and the version's chars of a file.
+minor-chars : (v : ℕ) → Allowed (integerIn 0 lastMinor) v → Allowed versionChars (versionZero + v)
+minor-chars v a =
+    let h : v ≤ 4 = in-range w32 0 4 v (unless-none (inRange 0 4 (toZ w32 v)) 6 (a .faultless)) .1 in
+    let low : leb versionZero (versionZero + v) ≡ true = le-leb versionZero (versionZero + v) (omega arith) in
+    let high : leb (versionZero + v) (versionZero + lastMinor) ≡ true = le-leb (versionZero + v) (versionZero + lastMinor) (omega arith) in
+    record { fits = omega arith; faultless = rw (low, high) }
+
+chars-minor : (v : ℕ) → Allowed versionChars (versionZero + v) → Allowed (integerIn 0 lastMinor) v
+chars-minor v a =
+    let b = and-both (leb versionZero (versionZero + v)) (leb (versionZero + v) (versionZero + lastMinor)) (unless-none (leb versionZero (versionZero + v) && leb (versionZero + v) (versionZero + lastMinor)) 4 (a .faultless)) in
+    let h = leb-true (versionZero + v) (versionZero + lastMinor) (b .1) in
+    record { fits = omega arith; faultless = ap (λ t. unless t 6) (small v (omega arith)) }
+
+back-again : (v : ℕ) → versionZero + v - versionZero ≡ v
+back-again v = omega arith
+
+-- The parts of a good drawing.
+pub record Parts (d : Drawing) : Type 0 where
+  pub version : Allowed (integerIn 0 lastMinor) (d .version)
+  pub settings : settings (d .version) .Good (d .settings)
+  pub outer : groupBody (d .version) (object (d .version) (depthLimit - 1)) .Good (d .members, d .description)
+
+pub file-parts : (d : Drawing) → file .Good d → Parts d
+file-parts d g =
+    let inner = g .1 .1 .1 in
+    record { version = chars-minor (d .version) (inner .0 .1); settings = inner .1 .0; outer = inner .1 .1 .1 }
+
+pub parts-file : (d : Drawing) → Parts d → file .Good d
+parts-file d g = (
+  record { fits = omega arith; faultless = refl },
+  (
+    record { fits = omega arith; faultless = refl },
+    (
+      refl,
+      (
+        (back-again (d .version), minor-chars (d .version) (g .version)),
+        (g .settings, (record { fits = omega arith; faultless = refl }, g .outer)),
+      ),
+    ),
+  ),
+)
