@@ -1,9 +1,8 @@
 -- What the kinds of field allow, as far as the layouts cite it: a flag has two values, a mark one, a letter is one of those listed.
 use mathlib.Core.Path.{_≡_, refl, sym, ap, _∙_}
 use mathlib.Core.Bool.{Bool, true, false, not, _&&_, _||_}
-use mathlib.Core.Option.{Option, none, some}
-use Prim.Native.Nat.{ℕ, suc, _<_, _≤_, _+_, _-_, _^_}
-use lib.Dec.{eqb, leb, ltb}
+use Prim.Native.Nat.{ℕ, zero, suc, _<_, _≤_, _+_, _-_, _^_}
+use lib.Dec.{T, eqb, leb, ltb, ltb→lt}
 use borrow.Author.Tests.{eqb-true, eqb-false, ltb-true, leb-true, eq-eqb}
 use native.Mathlib.Omega.{arith}
 use Rattle.format.specs.Kind.{Kind, Allowed}
@@ -14,25 +13,25 @@ use Rattle.drawing.specs.Fields.{unless, first, magic, jdr, versionLengt
 use Rattle.drawing.specs.Limits.{lastMinor}
 use Prim.Native.Char.{code}
 
-pub unless-none : (t : Bool) (n : ℕ) → unless t n ≡ none → t ≡ true
-unless-none true n e = refl
-unless-none false n e = let z : _≡_ {A = ℕ} 0 1 = cc in absurd (omega arith)
+pub unless-zero : (t : Bool) (n : ℕ) → T (ltb 0 n) → unless t n ≡ 0 → t ≡ true
+unless-zero true n h e = refl
+unless-zero false n h e = absurd (omega (arith, ltb→lt 0 n h))
 
-pub first-none : (a b : Option ℕ) → first a b ≡ none → (a ≡ none) × (b ≡ none)
-first-none none b e = (refl, e)
-first-none (some n) b e = let z : _≡_ {A = ℕ} 0 1 = cc in absurd (omega arith)
+pub first-zero : (a b : ℕ) → first a b ≡ 0 → (a ≡ 0) × (b ≡ 0)
+first-zero zero b e = (refl, e)
+first-zero (suc n) b e = absurd (omega arith)
 
 pub magic-only : (v : ℕ) → Allowed magic v → v ≡ jdr
-magic-only v a = eqb-true v jdr (unless-none (eqb v jdr) 3 (a .faultless))
+magic-only v a = eqb-true v jdr (unless-zero (eqb v jdr) 3 tt (a .faultless))
 
 pub version-length-only : (v : ℕ) → Allowed versionLength v → v ≡ 3
-version-length-only v a = eqb-true v 3 (unless-none (eqb v 3) 4 (a .faultless))
+version-length-only v a = eqb-true v 3 (unless-zero (eqb v 3) 4 tt (a .faultless))
 
 pub flow-flag-only : (v : ℕ) → Allowed flowFlag v → v ≡ 0
-flow-flag-only v a = eqb-true v 0 (unless-none (eqb v 0) 11 (first-none (unless (ltb v 2) 5) (unless (eqb v 0) 11) (a .faultless) .1))
+flow-flag-only v a = eqb-true v 0 (unless-zero (eqb v 0) 11 tt (first-zero (unless (ltb v 2) 5) (unless (eqb v 0) 11) (a .faultless) .1))
 
 pub flag-below : (v : ℕ) → Allowed flag v → v < 2
-flag-below v a = ltb-true v 2 (unless-none (ltb v 2) 5 (a .faultless))
+flag-below v a = ltb-true v 2 (unless-zero (ltb v 2) 5 tt (a .faultless))
 
 pub flag-zero : (v : ℕ) → Allowed flag v → eqb v 1 ≡ false → v ≡ 0
 flag-zero v a e = let h = flag-below v a in let n = eqb-false v 1 e in omega arith
@@ -41,7 +40,7 @@ pub flag-one : (v : ℕ) → Allowed flag v → eqb v 0 ≡ false → v ≡ 1
 flag-one v a e = let h = flag-below v a in let n = eqb-false v 0 e in omega arith
 
 pub char-passes : (allowed : ℕ → Bool) (c : ℕ) → Allowed (charWhere allowed) c → allowed c ≡ true
-char-passes allowed c a = unless-none (allowed c) 7 (a .faultless)
+char-passes allowed c a = unless-zero (allowed c) 7 tt (a .faultless)
 
 pub and-both : (a b : Bool) → (a && b) ≡ true → (a ≡ true) × (b ≡ true)
 and-both true b e = (refl, e)
@@ -56,7 +55,7 @@ in-range w low high v e = by (ltb v (2 ^ hbits w)) e
     by false e = let z : _≡_ {A = Bool} false true = e in absurd (let y : _≡_ {A = ℕ} 0 1 = cc in omega arith)
 
 pub byte-in : (low high v : ℕ) → Allowed (byteIn low high) v → (low ≤ v) × (v ≤ high)
-byte-in low high v a = in-range w8 low high v (unless-none (inRange low high (toZ w8 v)) 6 (a .faultless))
+byte-in low high v a = in-range w8 low high v (unless-zero (inRange low high (toZ w8 v)) 6 tt (a .faultless))
 
 pub outer-only : (v : ℕ) → Allowed (charWhere (λ c. eqb c (code "G"))) v → v ≡ code "G"
 outer-only v a = eqb-true v (code "G") (char-passes (λ c. eqb c (code "G")) v a)
@@ -64,6 +63,6 @@ outer-only v a = eqb-true v (code "G") (char-passes (λ c. eqb c (code "G")) v a
 -- The version's chars, taken as the minor number, come back.
 pub version-back : (c : ℕ) → Allowed versionChars c → versionZero + (c - versionZero) ≡ c
 version-back c a =
-    let b = and-both (leb versionZero c) (leb c (versionZero + lastMinor)) (unless-none (leb versionZero c && leb c (versionZero + lastMinor)) 4 (a .faultless)) in
+    let b = and-both (leb versionZero c) (leb c (versionZero + lastMinor)) (unless-zero (leb versionZero c && leb c (versionZero + lastMinor)) 4 tt (a .faultless)) in
     let h : versionZero ≤ c = leb-true versionZero c (b .0) in
     omega arith

@@ -1,8 +1,7 @@
 -- The kinds of field of a drawing, each with the number that 01 gives to a value that is not allowed ('Fields', 'Numbers given back').
 -- That a field is cut (2) comes before all of these, in reading the field. A field's value is the unsigned number of its bytes.
 use mathlib.Core.Bool.{Bool, true, false, not, _&&_, _||_}
-use mathlib.Core.Option.{Option, none, some}
-use Prim.Native.Nat.{ℕ, _+_, _%_, _^_}
+use Prim.Native.Nat.{ℕ, zero, suc, _+_, _%_, _^_}
 use Prim.Native.Char.{code}
 use mathlib.Core.List.{List, [], _∷_}
 use lib.Dec.{eqb, leb, ltb}
@@ -20,17 +19,17 @@ use Rattle.drawing.specs.Limits.{lastMinor}
 -- ---- faults
 
 -- No fault where the test holds, and this one elsewhere.
-abbrev pub unless : Bool → ℕ → Option ℕ
-unless true n = none
-unless false n = some n
+abbrev pub unless : Bool → ℕ → ℕ
+unless true n = 0
+unless false n = n
 
 -- The first of two faults.
-abbrev pub first : Option ℕ → Option ℕ → Option ℕ
-first none other = other
-first (some n) other = some n
+abbrev pub first : ℕ → ℕ → ℕ
+first zero other = other
+first (suc n) other = suc n
 
 abbrev pub any : Shape → Kind
-any s = record { shape = s; fault = λ v. none }
+any s = record { shape = s; fault = λ v. 0 }
 
 -- ---- the head
 

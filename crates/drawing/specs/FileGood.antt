@@ -12,7 +12,7 @@ use mir.Val.{toZ}
 use Rattle.format.specs.Kind.{Allowed}
 use Rattle.drawing.specs.Limits.{lastMinor, depthLimit}
 use Rattle.drawing.specs.Fields.{unless, inRange, integerIn, versionChars, versionZero}
-use Rattle.drawing.specs.FieldLaws.{unless-none, in-range, and-both}
+use Rattle.drawing.specs.FieldLaws.{unless-zero, in-range, and-both}
 use Rattle.drawing.specs.Settings.{settings}
 use Rattle.drawing.specs.ObjectLayout.{object, groupBody}
 use Rattle.drawing.specs.Drawing.{Drawing, file}
@@ -28,14 +28,14 @@ small (suc (suc (suc (suc (suc n))))) h = absurd (omega arith)
 -- The minor version number of a table, and the version's chars of a file.
 minor-chars : (v : ℕ) → Allowed (integerIn 0 lastMinor) v → Allowed versionChars (versionZero + v)
 minor-chars v a =
-    let h : v ≤ 4 = in-range w32 0 4 v (unless-none (inRange 0 4 (toZ w32 v)) 6 (a .faultless)) .1 in
+    let h : v ≤ 4 = in-range w32 0 4 v (unless-zero (inRange 0 4 (toZ w32 v)) 6 tt (a .faultless)) .1 in
     let low : leb versionZero (versionZero + v) ≡ true = le-leb versionZero (versionZero + v) (omega arith) in
     let high : leb (versionZero + v) (versionZero + lastMinor) ≡ true = le-leb (versionZero + v) (versionZero + lastMinor) (omega arith) in
     record { fits = omega arith; faultless = rw (low, high) }
 
 chars-minor : (v : ℕ) → Allowed versionChars (versionZero + v) → Allowed (integerIn 0 lastMinor) v
 chars-minor v a =
-    let b = and-both (leb versionZero (versionZero + v)) (leb (versionZero + v) (versionZero + lastMinor)) (unless-none (leb versionZero (versionZero + v) && leb (versionZero + v) (versionZero + lastMinor)) 4 (a .faultless)) in
+    let b = and-both (leb versionZero (versionZero + v)) (leb (versionZero + v) (versionZero + lastMinor)) (unless-zero (leb versionZero (versionZero + v) && leb (versionZero + v) (versionZero + lastMinor)) 4 tt (a .faultless)) in
     let h = leb-true (versionZero + v) (versionZero + lastMinor) (b .1) in
     record { fits = omega arith; faultless = ap (λ t. unless t 6) (small v (omega arith)) }
 

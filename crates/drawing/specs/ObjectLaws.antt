@@ -7,7 +7,7 @@ use mathlib.Core.List.{List, [], _∷_}
 use lib.Dec.{eqb}
 use Rattle.format.specs.Kind.{Allowed}
 use Rattle.drawing.specs.Fields.{unless, first, oneOfChars, objectId}
-use Rattle.drawing.specs.FieldLaws.{unless-none, first-none}
+use Rattle.drawing.specs.FieldLaws.{unless-zero, first-zero}
 use Rattle.drawing.specs.Object.{Object, Objects, listOf, ofList}
 
 pub list-of-list : (os : List Object) → listOf (ofList os) ≡ os
@@ -35,8 +35,8 @@ allowed-id : (deeper : Bool) (c : ℕ) → Allowed (objectId deeper) c
 allowed-id deeper c a =
     let listed = oneOfChars (code "G" ∷ code "P" ∷ code "T" ∷ code "I" ∷ []) c in
     let room = deeper || not (eqb c (code "G")) in
-    let n = first-none (unless listed 7) (unless room 10) (a .faultless) in
-    (unless-none listed 7 (n .0), unless-none room 10 (n .1))
+    let n = first-zero (unless listed 7) (unless room 10) (a .faultless) in
+    (unless-zero listed 7 tt (n .0), unless-zero room 10 tt (n .1))
 
 pub leaf-listed : (c : ℕ) → Allowed (objectId false) c → (eqb c (code "T") || (eqb c (code "I") || eqb c (code "P"))) ≡ true
 leaf-listed c a =

@@ -32,9 +32,9 @@ pub data Verdict : Type 0 where
   value : ℕ → Verdict
   fault : ℕ → Verdict
 
-abbrev pub judged : ℕ → Option ℕ → Verdict
-judged v none = value v
-judged v (some n) = fault n
+abbrev pub judged : ℕ → ℕ → Verdict
+judged v zero = value v
+judged v (suc n) = fault (suc n)
 
 abbrev pub verdict : Fixed → Kind → Option ℕ → Verdict
 verdict F k none = fault (F .meaningless)

@@ -93,9 +93,9 @@ module _ (F : Fixed) (S : Sensible F) where
       fits : v < 256 ^ size (k .shape)
       fits = S .fits (k .shape) (number (F .base) front) v (rw (← l) (number-below (F .base) front below)) h
 
-      judged-so : (f : Option ℕ) → k .fault v ≡ f → Explained (fixed F) k us (conclude (judged v f) us rest)
-      judged-so none q = (front, e, record { long = l; below = below; means = h }, record { fits = fits; faultless = q })
-      judged-so (some n) q = (refl, inr (record { front = front; rest = rest; split = e; long = l; says = rw (h, q) }))
+      judged-so : (f : ℕ) → k .fault v ≡ f → Explained (fixed F) k us (conclude (judged v f) us rest)
+      judged-so zero q = (front, e, record { long = l; below = below; means = h }, record { fits = fits; faultless = q })
+      judged-so (suc n) q = (refl, inr (record { front = front; rest = rest; split = e; long = l; says = rw (h, q) }))
 
   explain-cut : (k : Kind) (us : List ℕ) → Below (F .base) us → (o : Option (List ℕ × List ℕ)) → CutSays (F .width (k .shape)) us o → Explained (fixed F) k us (readCut F k us o)
   explain-cut k us b none h = (refl, inl (record { short = h; number = refl }))

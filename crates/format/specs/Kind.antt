@@ -1,7 +1,6 @@
 -- One field: its shape, the values it may have, and what is wrong with the others.
 use mathlib.Core.Path.{_≡_}
 use mathlib.Core.Bool.{Bool}
-use mathlib.Core.Option.{Option, none}
 use Prim.Native.Nat.{ℕ, _*_, _^_, _<_}
 
 -- How a field is laid down. A string's length and its chars have shapes of their own, the char with whether it is the string's last, since
@@ -23,15 +22,15 @@ size stringLength = 4
 size (stringChar last) = 2
 size (chars n) = 2 * n
 
--- A kind of field: its shape, and for each value the number of the fault that it is here, `none` where it is allowed.
+-- A kind of field: its shape, and for each value the number of the fault that it is here, 0 where it is allowed.
 -- A field's value is the unsigned big-endian number of its bytes.
 pub record Kind : Type 0 where
   pub shape : Shape
-  pub fault : ℕ → Option ℕ
+  pub fault : ℕ → ℕ
 
 pub record Allowed (k : Kind) (v : ℕ) : Type 0 where
   pub fits : v < 256 ^ size (k .shape)
-  pub faultless : k .fault v ≡ none
+  pub faultless : k .fault v ≡ 0
 
 pub record Field : Type 0 where
   pub kind : Kind
