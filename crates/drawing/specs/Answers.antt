@@ -1,11 +1,11 @@
 -- What each call answers, for every input: its answer, and what the lent memory then holds (01, 'Numbers given back').
-use mathlib.Core.Bool.{Bool, true, false, cond}
 use mathlib.Core.Option.{Option, none, some}
-use Prim.Native.Nat.{ℕ, _+_, _*_, _/_}
-use mathlib.Core.List.{List, [], _∷_, _++_}
-use lib.ListN.{length, drop, getD, getElem?}
-use lib.Dec.{ltb}
+use Prim.Native.Nat.{ℕ, zero, suc, _/_}
+use mathlib.Core.List.{List, _++_}
+use lib.ListN.{length, drop}
+use lib.Dec.{leb}
 use Rattle.drawing.specs.declared.Answer.{Answer}
+use Rattle.drawing.specs.Fields.{unless, first}
 use Rattle.drawing.specs.String.{String}
 use Rattle.drawing.specs.Drawing.{Drawing, outer, fileOf, Reading, drawing, refusal, drawingOf}
 use Rattle.drawing.specs.Table.{rows, contentsOf, bodiesOf}
@@ -32,22 +32,21 @@ pub record ReadResult : Type 0 where
   pub contents : List ℕ
   pub bodies : List ℕ
 
--- A drawing, of a file of this length, that is to be stored: the room is whole rows of four words, and words.
-abbrev pub stored : Drawing → ℕ → (contents bodies : List ℕ) → ReadResult
-stored d total contents bodies =
-    cond (ltb (length contents / 4) (rowsOf d))
-    (record { answer = answer 14 total (rowsOf d) (wordCount d); contents = contents; bodies = bodies })
-    (cond (ltb (length bodies) (wordCount d))
-    (record { answer = answer 15 total (rowsOf d) (wordCount d); contents = contents; bodies = bodies })
-    (record {
-      answer = answer 0 total (rowsOf d) (wordCount d);
-      contents = over (contentsOf d) contents;
-      bodies = over (bodiesOf d) bodies;
-    }))
+-- What the lent room lacks for a drawing's table: rows, of four words each, and then words.
+abbrev pub roomFault : Drawing → (contents bodies : List ℕ) → ℕ
+roomFault d contents bodies =
+    first (unless (leb (rowsOf d) (length contents / 4)) 14) (unless (leb (wordCount d) (length bodies)) 15)
+
+-- A drawing, of a file of this length, that is stored unless the room has a fault.
+abbrev pub stored : (fault : ℕ) → Drawing → ℕ → (contents bodies : List ℕ) → ReadResult
+stored zero d total contents bodies =
+    record { answer = answer 0 total (rowsOf d) (wordCount d); contents = over (contentsOf d) contents; bodies = over (bodiesOf d) bodies }
+stored (suc n) d total contents bodies =
+    record { answer = answer (suc n) total (rowsOf d) (wordCount d); contents = contents; bodies = bodies }
 
 abbrev pub readFrom : Reading → ℕ → (contents bodies : List ℕ) → ReadResult
 readFrom (refusal n o) total contents bodies = record { answer = answer n o 0 0; contents = contents; bodies = bodies }
-readFrom (drawing d) total contents bodies = stored d total contents bodies
+readFrom (drawing d) total contents bodies = stored (roomFault d contents bodies) d total contents bodies
 
 abbrev pub readResult : (file contents bodies : List ℕ) → ReadResult
 readResult file contents bodies = readFrom (drawingOf file) (length file) contents bodies
@@ -71,26 +70,27 @@ pub record Output : Type 0 where
   pub answer : Answer
   pub lent : List ℕ
 
+abbrev pub written : (fault : ℕ) → Drawing → (file : List ℕ) → Output
+written zero d file =
+    record { answer = answer 0 (length (fileOf d)) (rowsOf d) (wordCount d); lent = over (fileOf d) file }
+written (suc n) d file = record { answer = answer (suc n) (length (fileOf d)) 0 0; lent = file }
+
 abbrev pub writeFrom : Option Drawing → (file : List ℕ) → Output
 writeFrom none file = record { answer = noTable; lent = file }
-writeFrom (some d) file =
-    let bytes = fileOf d in
-    cond (ltb (length file) (length bytes))
-    (record { answer = answer 17 (length bytes) 0 0; lent = file })
-    (record { answer = answer 0 (length bytes) (rowsOf d) (wordCount d); lent = over bytes file })
+writeFrom (some d) file = written (unless (leb (length (fileOf d)) (length file)) 17) d file
 
 abbrev pub writeOutput : (contents bodies file : List ℕ) → Output
 writeOutput contents bodies file = writeFrom (drawingOfTable contents bodies) file
 
 -- ---- listing the objects with a label
 
+abbrev pub listed : (fault : ℕ) → (entries list : List ℕ) → Output
+listed zero entries list = record { answer = answer 0 0 (length entries) 0; lent = over entries list }
+listed (suc n) entries list = record { answer = answer (suc n) (length entries) 0 0; lent = list }
+
 abbrev pub listFrom : Option Drawing → String → (list : List ℕ) → Output
 listFrom none label list = record { answer = noTable; lent = list }
-listFrom (some d) label list =
-    let found = entries label d in
-    cond (ltb (length list) (length found))
-    (record { answer = answer 18 (length found) 0 0; lent = list })
-    (record { answer = answer 0 0 (length found) 0; lent = over found list })
+listFrom (some d) label list = listed (unless (leb (length (entries label d)) (length list)) 18) (entries label d) list
 
 abbrev pub listOutput : (contents bodies : List ℕ) → String → (list : List ℕ) → Output
 listOutput contents bodies label list = listFrom (drawingOfTable contents bodies) label list

@@ -11,7 +11,7 @@ use borrow.Author.Tests.{ltb-true, ltb-false, lt-ltb, le-ltb}
 use Rattle.format.specs.Digits.{Below}
 use Rattle.format.specs.Codec.{Outcome, found, refused, spellAll}
 use Rattle.format.specs.FixedCodec.{bytes, byteFields, spellFixed, Cut, Faulty}
-use Rattle.format.specs.FixedCodecLaws.{bytes-sensible, bytes-literal}
+use Rattle.format.specs.FixedCodecLaws.{bytes-sensible, bytes-literal, fault-positive}
 use Rattle.format.specs.Layout.{parse}
 use Rattle.format.specs.FixedLayoutLaws.{Stopped, parse-encoded, parse-encoded-alone, parsed-good, encode-unique, refused-stopped}
 use Rattle.drawing.specs.Limits.{lengthLimit}
@@ -122,3 +122,12 @@ refusal-of-bytes bs b n offset = (there, back)
         short-reading bs (h .short) (found (h .drawing) (h .rest)) p
         ∙ left-over (length bs) (h .drawing) (h .rest) (h .some-left)
         ∙ ap₂ (λ x y. refusal x y) (sym (h .number-is)) (offset-of bs (fileOf (h .drawing)) (h .rest) (h .split) ∙ sym (h .offset-is))
+
+-- The number of a refusal is never 0, so 0 says that the bytes were accepted.
+pub refusal-positive : (bs : List ℕ) → Below 256 bs → (n offset : ℕ) → drawingOf bs ≡ refusal n offset → 0 < n
+refusal-positive bs b n offset e = by (refusal-of-bytes bs b n offset .0 e)
+  where
+    by : Refused bs n offset → 0 < n
+    by (inl h) = rw (h .number-is) (omega arith)
+    by (inr (inl h)) = fault-positive byteFields (omega arith) (h .kind) (h .back) n (h .at-fault)
+    by (inr (inr h)) = rw (h .number-is) (omega arith)

@@ -32,3 +32,4 @@ pub mod Order
 pub mod OrderLaws
 pub mod Answers
 pub mod Questions
+pub mod AnswerLaws

@@ -13,8 +13,8 @@ use native.Mathlib.Nat as Nat
 use borrow.Author.Tests.{lt-ltb, ltb-true}
 use Rattle.format.specs.Digits.{Below, number, digits}
 use Rattle.format.specs.DigitsLaws.{length-digits, below-digits, number-digits, number-below, digits-number}
-use Rattle.format.specs.Kind.{Shape, size, Kind, Allowed}
-use Rattle.format.specs.Codec.{Codec, Lawful, Writes, Strict, Outcome, found, refused, Explained}
+use Rattle.format.specs.Kind.{Shape, size, Kind, Field, Allowed}
+use Rattle.format.specs.Codec.{Codec, Lawful, Writes, Strict, spellAll, Outcome, found, refused, Explained}
 use Rattle.format.specs.FixedCodec.{Fixed, fixed, cut, Verdict, value, fault, judged, verdict, judge, conclude, readCut, SpellsFixed, Faulty, Cut, spellFixed, byteFields, bytes, wordFields, words}
 
 -- A run of units that is cut off where it ends.
@@ -123,6 +123,14 @@ module _ (F : Fixed) (S : Sensible F) where
   pub fixed-writes : Writes (fixed F) (spellFixed F)
   fixed-writes k v rest a = spell-fixed k v a
 
+  -- What is written is made of the codec's units.
+  pub below-spelled : (fs : List Field) → Below (F .base) (spellAll (spellFixed F) fs)
+  below-spelled [] = tt
+  below-spelled (f ∷ fs) =
+      below-append (F .base) (spellFixed F (f .kind) (f .value)) (spellAll (spellFixed F) fs)
+      (below-digits (F .base) (F .width (f .kind .shape)) (f .value) (S .positive))
+      (below-spelled fs)
+
   pub fixed-strict : Literal F → Strict (fixed F) (spellFixed F)
   fixed-strict lit k v us rest p =
       let e : number (F .base) us ≡ v = lit (k .shape) (number (F .base) us) v (p .means) in
@@ -164,3 +172,16 @@ words-sensible =
       plain = λ s v h. rw (lt-ltb v (256 ^ size s) h);
       room = λ s. words-hold (size s);
     }
+
+-- A refusal's number is never 0.
+pub fault-positive : (F : Fixed) → 0 < F .meaningless → (k : Kind) (us : List ℕ) (n : ℕ) → Cut F k us n ⊎ Faulty F k us n → 0 < n
+fault-positive F m k us n (inl h) = rw (h .number) (omega arith)
+fault-positive F m k us n (inr h) = judged-positive (F .meaning (k .shape) (number (F .base) (h .front))) (h .says)
+  where
+    value-positive : (v f : ℕ) → judged v f ≡ fault n → 0 < n
+    value-positive v zero e = let z : _≡_ {A = ℕ} 0 1 = cc in absurd (omega arith)
+    value-positive v (suc f) e = let z : suc f ≡ n = cc in omega arith
+
+    judged-positive : (o : Option ℕ) → verdict F k o ≡ fault n → 0 < n
+    judged-positive none e = let z : F .meaningless ≡ n = cc in omega arith
+    judged-positive (some v) e = value-positive v (k .fault v) e

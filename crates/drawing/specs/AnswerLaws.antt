@@ -1,0 +1,159 @@
+-- Demand 2 on the answers: what a read accepts, a write turns back into the same bytes, and what a write gives, a read turns back into the
+-- same table. A call answers 0 exactly when its definition says so, and then with the drawing's own counts.
+use mathlib.Core.Path.{_≡_, refl, sym, ap, ap₂, _∙_, subst}
+use mathlib.Core.Logic.{_↔_}
+use mathlib.Core.Bool.{Bool, true, false, cond}
+use mathlib.Core.Option.{Option, none, some}
+use Prim.Native.Nat.{ℕ, zero, suc, _+_, _*_, _/_, _^_, _<_, _≤_}
+use mathlib.Core.List.{List, [], _∷_, _++_}
+use lib.ListN.{length, take, drop}
+use lib.Seq.{take-at}
+use lib.Dec.{leb}
+use native.Mathlib.Omega.{arith}
+use borrow.Author.Tests.{leb-true, le-leb}
+use Rattle.format.specs.Digits.{Below}
+use Rattle.drawing.specs.Fields.{unless, first}
+use Rattle.drawing.specs.FieldLaws.{unless-zero, first-zero}
+use Rattle.format.specs.FixedCodec.{byteFields}
+use Rattle.format.specs.FixedCodecLaws.{bytes-sensible, below-spelled}
+use Rattle.format.specs.Format.{fields}
+use Rattle.drawing.specs.Drawing.{Drawing, outer, file as fileLayout, fileOf, Acceptable, Reading, drawing, refusal, drawingOf}
+use Rattle.drawing.specs.DrawingLaws.{drawing-of-bytes, refusal-positive}
+use Rattle.drawing.specs.Table.{rows, headWords, contentsOf, bodiesOf}
+use Rattle.drawing.specs.TableDrawing.{drawingOfTable}
+use Rattle.drawing.specs.TableLaws.{IsTable, drawing-of-table, table-complete}
+use Rattle.drawing.specs.OrderLaws.{contents-length}
+use Rattle.drawing.specs.Answers.{answer, rowsOf, wordCount, over, ReadResult, roomFault, stored, readFrom, readResult, checkFrom, checkAnswer, Output, written, writeFrom, writeOutput}
+
+-- What stands at the beginning is what was put there.
+pub take-over : (new lent : List ℕ) (n : ℕ) → length new ≡ n → take n (over new lent) ≡ new
+take-over new lent n e = take-at new (drop (length new) lent) n e
+
+-- A file was accepted, with a drawing and room for its table.
+pub record Accepted (file contents bodies : List ℕ) : Type 0 where
+  pub drawing : Drawing
+  pub acceptable : Acceptable drawing
+  pub file-is : file ≡ fileOf drawing
+  pub rows-fit : rowsOf drawing ≤ length contents / 4
+  pub words-fit : wordCount drawing ≤ length bodies
+
+room-fits : (d : Drawing) (contents bodies : List ℕ) → roomFault d contents bodies ≡ 0 → (rowsOf d ≤ length contents / 4) × (wordCount d ≤ length bodies)
+room-fits d contents bodies e =
+    let rows-fit = leb (rowsOf d) (length contents / 4) in
+    let words-fit = leb (wordCount d) (length bodies) in
+    let z = first-zero (unless rows-fit 14) (unless words-fit 15) e in
+    (leb-true (rowsOf d) (length contents / 4) (unless-zero rows-fit 14 tt (z .0)), leb-true (wordCount d) (length bodies) (unless-zero words-fit 15 tt (z .1)))
+
+fits-room : (d : Drawing) (contents bodies : List ℕ) → rowsOf d ≤ length contents / 4 → wordCount d ≤ length bodies → roomFault d contents bodies ≡ 0
+fits-room d contents bodies h g =
+    ap₂ (λ s t. first (unless s 14) (unless t 15)) (le-leb (rowsOf d) (length contents / 4) h) (le-leb (wordCount d) (length bodies) g)
+
+stored-zero : (f : ℕ) (d : Drawing) (total : ℕ) (contents bodies : List ℕ) → stored f d total contents bodies .answer .number ≡ 0 → f ≡ 0
+stored-zero zero d total contents bodies e = refl
+stored-zero (suc n) d total contents bodies e = e
+
+-- An accepted file gives the drawing's table, with all else as before, and the drawing's counts.
+pub read-gives : (file contents bodies : List ℕ) → Below 256 file → (a : Accepted file contents bodies)
+    → readResult file contents bodies
+    ≡ record { answer = answer 0 (length file) (rowsOf (a .drawing)) (wordCount (a .drawing)); contents = over (contentsOf (a .drawing)) contents; bodies = over (bodiesOf (a .drawing)) bodies }
+read-gives file contents bodies b a =
+    ap (λ r. readFrom r (length file) contents bodies) (drawing-of-bytes file b (a .drawing) .1 (a .acceptable, a .file-is))
+    ∙ ap (λ f. stored f (a .drawing) (length file) contents bodies) (fits-room (a .drawing) contents bodies (a .rows-fit) (a .words-fit))
+
+-- The answer is 0 exactly when the file is a drawing's, and the drawing's table fits the room.
+pub read-accepts : (file contents bodies : List ℕ) → Below 256 file → (readResult file contents bodies .answer .number ≡ 0) ↔ Accepted file contents bodies
+read-accepts file contents bodies b = (there (drawingOf file) refl, back)
+  where
+    there : (r : Reading) → drawingOf file ≡ r → readFrom r (length file) contents bodies .answer .number ≡ 0 → Accepted file contents bodies
+    there (refusal n o) p e = absurd (omega (arith, refusal-positive file b n o p))
+    there (drawing d) p e =
+        let x = drawing-of-bytes file b d .0 p in
+        let f = room-fits d contents bodies (stored-zero (roomFault d contents bodies) d (length file) contents bodies e) in
+        record { drawing = d; acceptable = x .0; file-is = x .1; rows-fit = f .0; words-fit = f .1 }
+
+    back : Accepted file contents bodies → readResult file contents bodies .answer .number ≡ 0
+    back a = ap (λ r. r .answer .number) (read-gives file contents bodies b a)
+
+-- ---- writing
+
+-- A table was written: it is a drawing's, and the drawing's file fits the room.
+pub record Writable (contents bodies file : List ℕ) : Type 0 where
+  pub drawing : Drawing
+  pub is-table : IsTable contents bodies drawing
+  pub fits : length (fileOf drawing) ≤ length file
+
+write-drawing : (contents bodies file : List ℕ) (d : Drawing) → drawingOfTable contents bodies ≡ some d → length (fileOf d) ≤ length file
+    → writeOutput contents bodies file ≡ record { answer = answer 0 (length (fileOf d)) (rowsOf d) (wordCount d); lent = over (fileOf d) file }
+write-drawing contents bodies file d e fits =
+    ap (λ o. writeFrom o file) e ∙ ap (λ t. written (unless t 17) d file) (le-leb (length (fileOf d)) (length file) fits)
+
+pub write-gives : (contents bodies file : List ℕ) → Below (2 ^ 32) bodies → (w : Writable contents bodies file)
+    → writeOutput contents bodies file
+    ≡ record { answer = answer 0 (length (fileOf (w .drawing))) (rowsOf (w .drawing)) (wordCount (w .drawing)); lent = over (fileOf (w .drawing)) file }
+write-gives contents bodies file b w =
+    write-drawing contents bodies file (w .drawing) (drawing-of-table contents bodies b (w .drawing) .1 (w .is-table)) (w .fits)
+
+written-zero : (f : ℕ) (d : Drawing) (file : List ℕ) → written f d file .answer .number ≡ 0 → f ≡ 0
+written-zero zero d file e = refl
+written-zero (suc n) d file e = e
+
+pub write-accepts : (contents bodies file : List ℕ) → Below (2 ^ 32) bodies → (writeOutput contents bodies file .answer .number ≡ 0) ↔ Writable contents bodies file
+write-accepts contents bodies file b = (there (drawingOfTable contents bodies) refl, λ w. ap (λ o. o .answer .number) (write-gives contents bodies file b w))
+  where
+    there : (o : Option Drawing) → drawingOfTable contents bodies ≡ o → writeFrom o file .answer .number ≡ 0 → Writable contents bodies file
+    there none p e = absurd (omega arith)
+    there (some d) p e =
+        let fit = leb (length (fileOf d)) (length file) in
+        record {
+          drawing = d;
+          is-table = drawing-of-table contents bodies b d .0 p;
+          fits = leb-true (length (fileOf d)) (length file) (unless-zero fit 17 tt (written-zero (unless fit 17) d file e));
+        }
+
+-- ---- there and back
+
+-- What is written of the table that a read gave.
+abbrev WrittenBack : (file out : List ℕ) → ReadResult → Type 0
+WrittenBack file out r =
+    writeOutput (take (4 * r .answer .rows) (r .contents)) (take (r .answer .words) (r .bodies)) out ≡ record { answer = r .answer; lent = over file out }
+
+-- What a read gives, a write turns back into the same bytes.
+pub read-then-write : (file contents bodies out : List ℕ) → Below 256 file → readResult file contents bodies .answer .number ≡ 0 → length file ≤ length out
+    → WrittenBack file out (readResult file contents bodies)
+read-then-write file contents bodies out b accepted room =
+    let a = read-accepts file contents bodies b .0 accepted in
+    let d = a .drawing in
+    let fits : length (fileOf d) ≤ length out = subst (λ l. length l ≤ length out) (a .file-is) room in
+    subst (WrittenBack file out) (sym (read-gives file contents bodies b a))
+    (ap₂ (λ x y. writeOutput x y out)
+    (take-over (contentsOf d) contents (4 * rowsOf d) (contents-length (outer d) (d .version) 0 0 (length (headWords d))))
+    (take-over (bodiesOf d) bodies (wordCount d) refl)
+    ∙ write-drawing (contentsOf d) (bodiesOf d) out d (table-complete d (a .acceptable)) fits
+    ∙ ap {B = Output} (λ f. record { answer = answer 0 (length f) (rowsOf d) (wordCount d); lent = over f out }) (sym (a .file-is)))
+
+-- What is read of the bytes that a write gave.
+abbrev ReadBack : (contents bodies c d : List ℕ) → Output → Type 0
+ReadBack contents bodies c d o =
+    readResult (take (o .answer .offset) (o .lent)) c d ≡ record { answer = o .answer; contents = over contents c; bodies = over bodies d }
+
+-- What a write gives, a read turns back into the same table.
+pub write-then-read : (contents bodies file c d : List ℕ) → Below (2 ^ 32) bodies → writeOutput contents bodies file .answer .number ≡ 0
+    → writeOutput contents bodies file .answer .rows ≤ length c / 4 → writeOutput contents bodies file .answer .words ≤ length d
+    → ReadBack contents bodies c d (writeOutput contents bodies file)
+write-then-read contents bodies file c d b accepted rows-fit words-fit =
+    let w = write-accepts contents bodies file b .0 accepted in
+    let D = w .drawing in
+    let g = write-gives contents bodies file b w in
+    let a : Accepted (fileOf D) c d =
+    record {
+      drawing = D;
+      acceptable = w .is-table .acceptable;
+      file-is = refl;
+      rows-fit = subst (λ o. o .answer .rows ≤ length c / 4) g rows-fit;
+      words-fit = subst (λ o. o .answer .words ≤ length d) g words-fit;
+    } in
+    subst (ReadBack contents bodies c d) (sym g)
+    (ap (λ f. readResult f c d) (take-over (fileOf D) file (length (fileOf D)) refl)
+    ∙ read-gives (fileOf D) c d (below-spelled byteFields bytes-sensible (fields (fileLayout .format) D)) a
+    ∙ ap₂ {C = ReadResult} (λ x y. record { answer = answer 0 (length (fileOf D)) (rowsOf D) (wordCount D); contents = over x c; bodies = over y d })
+    (sym (w .is-table .contents-are)) (sym (w .is-table .bodies-are)))
