@@ -1,5 +1,5 @@
 -- Bitmaps (01, 'Object', I).
-use mathlib.Core.Path.{_≡_, refl}
+use mathlib.Core.Path.{refl}
 use mathlib.Core.Option.{Option}
 use Prim.Native.Nat.{ℕ}
 use mathlib.Core.List.{List}

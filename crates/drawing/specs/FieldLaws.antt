@@ -1,13 +1,13 @@
 -- What the kinds of field allow, as far as the layouts cite it: a flag has two values, a mark one, a letter is one of those listed.
-use mathlib.Core.Path.{_≡_, refl, sym, ap, _∙_}
-use mathlib.Core.Bool.{Bool, true, false, not, _&&_, _||_}
+use mathlib.Core.Path.{_≡_, refl}
+use mathlib.Core.Bool.{Bool, true, false, _&&_}
 use Prim.Native.Nat.{ℕ, zero, suc, _<_, _≤_, _+_, _-_, _^_}
 use lib.Dec.{T, eqb, leb, ltb, ltb→lt}
-use borrow.Author.Tests.{eqb-true, eqb-false, ltb-true, leb-true, eq-eqb}
+use borrow.Author.Tests.{eqb-true, eqb-false, ltb-true, leb-true}
 use native.Mathlib.Omega.{arith}
-use Rattle.format.specs.Kind.{Kind, Allowed}
-use lib.IntN.{ℤ, pos, negsuc}
-use mir.Syntax.{Width, w8, w32}
+use Rattle.format.specs.Kind.{Allowed}
+use lib.IntN.{pos, negsuc}
+use mir.Syntax.{Width, w8}
 use mir.Val.{toZ, sel, bits, hbits}
 use Rattle.drawing.specs.Fields.{unless, first, magic, jdr, versionLength, flag, flowFlag, byteIn, inRange, charWhere, versionChars, versionZero}
 use Rattle.drawing.specs.Limits.{lastMinor}

@@ -1,9 +1,8 @@
 -- One marker (01, 'Line style'). Chains of composite markers are in MarkerChain.
-use mathlib.Core.Path.{_≡_, refl}
-use mathlib.Core.Bool.{Bool, true, false, cond, _&&_}
-use mathlib.Core.Option.{Option, none, some}
-use Prim.Native.Nat.{ℕ, zero, suc}
-use mathlib.Core.List.{List, [], _∷_}
+use mathlib.Core.Path.{refl}
+use mathlib.Core.Bool.{cond, _&&_}
+use mathlib.Core.Option.{Option, none}
+use Prim.Native.Nat.{ℕ}
 use lib.Dec.{leb, eqb}
 use Rattle.format.specs.Layout.{Layout, field, either, when, renamed, _&_, _▸_}
 use Rattle.drawing.specs.Fields.{flag, byteIn, float}

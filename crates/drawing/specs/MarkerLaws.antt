@@ -1,5 +1,5 @@
 -- A chain of markers begins with the id that led to it.
-use mathlib.Core.Path.{_≡_, refl, sym, ap, _∙_}
+use mathlib.Core.Path.{_≡_, sym, ap, _∙_}
 use mathlib.Core.Bool.{Bool, true, false, cond}
 use mathlib.Core.Option.{Option, none, some}
 use Prim.Native.Nat.{ℕ}
@@ -8,8 +8,7 @@ use lib.Dec.{leb, eqb}
 use borrow.Author.Tests.{eqb-true}
 use Rattle.format.specs.Kind.{Allowed}
 use Rattle.format.specs.Format.{Made}
-use Rattle.format.specs.Layout.{Layout, field, either, nothing}
-use Rattle.drawing.specs.Fields.{markerId, unless, first, inRange}
+use Rattle.drawing.specs.Fields.{markerId, unless, inRange}
 use Rattle.drawing.specs.FieldLaws.{unless-zero, first-zero}
 use Rattle.drawing.specs.Marker.{Marker, markerBody, marker, arrow}
 use mir.Syntax.{w8}

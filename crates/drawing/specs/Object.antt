@@ -1,5 +1,4 @@
 -- Objects and the tree that groups make of them (01, 'Object'; 'What each contract owes': a drawing is defined for itself).
-use Prim.Native.Nat.{ℕ, zero, suc, _+_}
 use mathlib.Core.List.{List, [], _∷_}
 use Rattle.drawing.specs.String.{String}
 use Rattle.drawing.specs.Path.{Path}

@@ -8,7 +8,7 @@ use lib.Dec.{eqb}
 use Rattle.format.specs.Kind.{Allowed}
 use Rattle.drawing.specs.Fields.{unless, first, oneOfChars, objectId}
 use Rattle.drawing.specs.FieldLaws.{unless-zero, first-zero}
-use Rattle.drawing.specs.Object.{Object, Objects, listOf, ofList}
+use Rattle.drawing.specs.Object.{Object, listOf, ofList}
 
 pub list-of-list : (os : List Object) → listOf (ofList os) ≡ os
 list-of-list [] = refl

@@ -1,10 +1,10 @@
 -- The layout of objects (01, 'Object'), by recursion on how many groups may still nest.
-use mathlib.Core.Path.{_≡_, refl}
-use mathlib.Core.Bool.{Bool, true, false}
+use mathlib.Core.Path.{refl}
+use mathlib.Core.Bool.{true, false}
 use mathlib.Core.Option.{Option, none, some}
 use Prim.Native.Nat.{ℕ, zero, suc}
 use Prim.Native.Char.{code}
-use mathlib.Core.List.{List, [], _∷_}
+use mathlib.Core.List.{[], _∷_}
 use lib.Dec.{leb}
 use Rattle.format.specs.Layout.{Layout, when, counted, mark, renamed, _&_}
 use Rattle.format.specs.Alternative.{Alternative}
@@ -15,7 +15,7 @@ use Rattle.drawing.specs.String.{String, string}
 use Rattle.drawing.specs.Path.{Path, path as pathSpecs}
 use Rattle.drawing.specs.Text.{Text, text as textSpecs}
 use Rattle.drawing.specs.Bitmap.{Bitmap, bitmap as bitmapSpecs}
-use Rattle.drawing.specs.Object.{Leaf, path, text, bitmap, Object, leaf, group, Objects, listOf, ofList}
+use Rattle.drawing.specs.Object.{path, text, bitmap, Object, leaf, group, Objects, listOf, ofList}
 use Rattle.drawing.specs.ObjectLaws.{list-of-list, leaf-listed, object-listed}
 
 abbrev pub objectLetter : Object → ℕ

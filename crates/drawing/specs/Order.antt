@@ -1,11 +1,10 @@
 -- The objects of a drawing in the order in which they open, their row numbers, the groups around them, and the entries of a label
 -- (01, 'What each contract owes').
 use mathlib.Core.Path.{_≡_}
-use mathlib.Core.Bool.{Bool, true, false, cond, _&&_}
-use Prim.Native.Nat.{ℕ, zero, suc, _+_, _*_, _<_}
-use mathlib.Core.List.{List, [], _∷_, _++_, map}
+use mathlib.Core.Bool.{cond}
+use Prim.Native.Nat.{ℕ, suc, _+_, _*_, _<_}
+use mathlib.Core.List.{List, [], _∷_, _++_}
 use lib.ListN.{getD}
-use lib.Dec.{eqb}
 use Rattle.drawing.specs.String.{String}
 use Rattle.drawing.specs.Object.{Object, leaf, group, Objects, none, more}
 use Rattle.drawing.specs.Drawing.{Drawing, outer}

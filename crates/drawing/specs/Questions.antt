@@ -1,8 +1,8 @@
 -- What the paint question and the text question answer, and which of two texts is shown (01, 'Paint', 'Text to show').
-use mathlib.Core.Bool.{Bool, true, false, cond}
+use mathlib.Core.Bool.{cond}
 use mathlib.Core.Option.{Option, none, some, Option·map}
 use Prim.Native.Nat.{ℕ, _+_, _*_}
-use mathlib.Core.List.{List, [], _∷_}
+use mathlib.Core.List.{List, []}
 use lib.ListN.{length, getD, getElem?}
 use lib.Dec.{ltb}
 use lib.Ieee.{Float, binary32, ofBits}
@@ -14,7 +14,7 @@ use Rattle.drawing.specs.declared.Which.{Which}
 use Rattle.drawing.specs.declared.Which.the-variants.{Line, Fill, Text}
 use Rattle.drawing.specs.declared.Span.{Span}
 use Rattle.drawing.specs.declared.TextAnswer.{TextAnswer}
-use Rattle.format.specs.Layout.{Layout, field, _&_}
+use Rattle.format.specs.Layout.{field, _&_}
 use Rattle.drawing.specs.Fields.{byteIn, fontSize}
 use Rattle.drawing.specs.String.{String, string}
 use Rattle.drawing.specs.Choices.{ifFlag}

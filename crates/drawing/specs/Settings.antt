@@ -1,9 +1,9 @@
 -- The settings that may stand in the head, and the paper (01, 'Head').
-use mathlib.Core.Path.{_≡_, refl}
-use mathlib.Core.Bool.{Bool, true, false, cond}
+use mathlib.Core.Path.{refl}
+use mathlib.Core.Bool.{true, cond}
 use mathlib.Core.Option.{Option, none, some}
 use Prim.Native.Nat.{ℕ}
-use mathlib.Core.List.{List, [], _∷_}
+use mathlib.Core.List.{[], _∷_}
 use lib.Dec.{leb, ltb, eqb}
 use Rattle.format.specs.Layout.{Layout, field, nothing, either, when, renamed, _&_, _▸_}
 use Rattle.format.specs.Alternative.{Alternative}

@@ -1,6 +1,6 @@
 -- The table of a drawing (01, 'The table'): contents, a row of four words an object, in the order in which objects open;
 -- and bodies, the words of the head and then each object's fields, in the order in which objects end.
-use Prim.Native.Nat.{ℕ, zero, suc, _+_}
+use Prim.Native.Nat.{ℕ, suc, _+_}
 use mathlib.Core.List.{List, [], _∷_, _++_}
 use lib.ListN.{length}
 use Rattle.format.specs.FixedCodec.{wordFields, spellFixed}

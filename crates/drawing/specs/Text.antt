@@ -1,5 +1,5 @@
 -- Texts (01, 'Object', T), and the transformations that texts and bitmaps have.
-use mathlib.Core.Path.{_≡_, refl}
+use mathlib.Core.Path.{refl}
 use mathlib.Core.Option.{Option}
 use Prim.Native.Nat.{ℕ}
 use mathlib.Core.List.{List}

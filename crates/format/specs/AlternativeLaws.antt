@@ -6,8 +6,6 @@ use Prim.Native.Nat.{ℕ}
 use mathlib.Core.List.{List, [], _∷_}
 use lib.Dec.{eqb}
 use borrow.Author.Tests.{eqb-true}
-use native.Mathlib.Omega.{arith}
-use Rattle.format.specs.Layout.{Layout}
 use Rattle.format.specs.Alternative.{Alternative, among, told, flagFor}
 use Rattle.format.specs.Format.{Made}
 

@@ -2,14 +2,14 @@
 -- A file's bytes and a table's words are two of them.
 use mathlib.Core.Path.{_≡_}
 use mathlib.Core.Logic.{_⊎_}
-use mathlib.Core.Bool.{Bool, true, false, cond}
+use mathlib.Core.Bool.{cond}
 use mathlib.Core.Option.{Option, none, some, Option·map}
 use Prim.Native.Nat.{ℕ, zero, suc, _<_, _^_, _+_, _/_}
 use mathlib.Core.List.{List, [], _∷_, _++_}
 use lib.ListN.{length}
 use lib.Dec.{ltb}
 use Rattle.format.specs.Digits.{Below, number, digits}
-use Rattle.format.specs.Kind.{Shape, size, Kind, Allowed}
+use Rattle.format.specs.Kind.{Shape, size, Kind}
 use Rattle.format.specs.Codec.{Codec, Spelling, Outcome, found, refused}
 
 pub record Fixed : Type 0 where

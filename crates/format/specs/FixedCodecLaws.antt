@@ -1,5 +1,5 @@
 -- Codecs of fixed width are lawful, and can be written with; those in which a number stands for itself have one spelling only.
-use mathlib.Core.Path.{_≡_, refl, sym, ap, _∙_, subst}
+use mathlib.Core.Path.{_≡_, refl, sym, ap}
 use mathlib.Core.Logic.{_⊎_, inl, inr}
 use mathlib.Core.Bool.{Bool, true, false, cond}
 use mathlib.Core.Option.{Option, none, some, Option·map}
@@ -14,8 +14,8 @@ use borrow.Author.Tests.{lt-ltb, ltb-true}
 use Rattle.format.specs.Digits.{Below, number, digits}
 use Rattle.format.specs.DigitsLaws.{length-digits, below-digits, number-digits, number-below, digits-number}
 use Rattle.format.specs.Kind.{Shape, size, Kind, Field, Allowed}
-use Rattle.format.specs.Codec.{Codec, Lawful, Writes, Strict, spellAll, Outcome, found, refused, Explained}
-use Rattle.format.specs.FixedCodec.{Fixed, fixed, cut, Verdict, value, fault, judged, verdict, judge, conclude, readCut, SpellsFixed, Faulty, Cut, spellFixed, byteFields, bytes, wordFields, words}
+use Rattle.format.specs.Codec.{Lawful, Writes, Strict, spellAll, found, refused, Explained}
+use Rattle.format.specs.FixedCodec.{Fixed, fixed, cut, value, fault, judged, verdict, judge, conclude, readCut, SpellsFixed, Faulty, Cut, spellFixed, byteFields, bytes, wordFields, words}
 
 -- A run of units that is cut off where it ends.
 pub cut-append : (front rest : List ℕ) (n : ℕ) → length front ≡ n → cut n (front ++ rest) ≡ some (front, rest)

@@ -1,11 +1,11 @@
 -- The laws of layouts, for codecs of fixed width in which a number stands for itself: a file's bytes and a table's words.
-use mathlib.Core.Path.{_≡_, refl, sym, ap, _∙_}
+use mathlib.Core.Path.{_≡_, refl}
 use mathlib.Core.Logic.{_↔_, _⊎_}
 use Prim.Native.Nat.{ℕ}
-use mathlib.Core.List.{List, [], _∷_, _++_, append-nil}
+use mathlib.Core.List.{List, [], _++_, append-nil}
 use Rattle.format.specs.Digits.{Below}
 use Rattle.format.specs.Kind.{Kind, Field}
-use Rattle.format.specs.Codec.{Outcome, found, refused, spellAll}
+use Rattle.format.specs.Codec.{found, refused, spellAll}
 use Rattle.format.specs.FixedCodec.{Fixed, fixed, spellFixed, Cut, Faulty}
 use Rattle.format.specs.FixedCodecLaws.{Sensible, Literal, fixed-lawful, fixed-writes, fixed-strict}
 use Rattle.format.specs.Script.{Script, end, Asks}

@@ -5,7 +5,7 @@ use mathlib.Core.Option.{Option, none, some}
 use Prim.Native.Nat.{ℕ, zero, suc}
 use mathlib.Core.List.{List, [], _∷_, _++_}
 use Rattle.format.specs.Kind.{Kind, Field, Allowed}
-use Rattle.format.specs.Script.{Script, end, ask}
+use Rattle.format.specs.Script.{Script, ask}
 
 -- There are n elements, each good where a state stands that the ones before it have led to.
 abbrev pub Each : {S A : Type 0} → (S → A → Type 0) → (S → A → S) → ℕ → S → List A → Type 0

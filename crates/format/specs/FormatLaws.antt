@@ -1,12 +1,12 @@
 -- A layout's script is given exactly the fields of good values: one induction on descriptions each way, with no codec in it.
-use mathlib.Core.Path.{_≡_, refl, sym, ap, _∙_, subst}
-use mathlib.Core.Bool.{Bool, true, false, cond}
+use mathlib.Core.Path.{_≡_, refl, ap}
+use mathlib.Core.Bool.{true, false}
 use mathlib.Core.Option.{Option, none, some}
 use Prim.Native.Nat.{ℕ, zero, suc}
 use mathlib.Core.List.{List, [], _∷_, _++_, append-assoc}
 use lib.ListN.{length}
-use Rattle.format.specs.Kind.{Kind, Field, Allowed}
-use Rattle.format.specs.Script.{Script, end, ask, Ends, Asks}
+use Rattle.format.specs.Kind.{Field}
+use Rattle.format.specs.Script.{Script, Ends}
 use Rattle.format.specs.Format.{Format, known, one, pair, many, pick, lead, via, Each, Made, fields, fieldsMany, ofSome, script, scriptMany}
 
 -- The script of a layout, given the fields of a good value, goes on with that value.

@@ -3,14 +3,13 @@
 use mathlib.Core.Path.{_≡_, refl, sym, ap, _∙_, subst}
 use mathlib.Core.Logic.{_↔_}
 use Prim.Native.Nat.{ℕ}
-use native.Mathlib.Omega.{arith}
-use mathlib.Core.List.{List, [], _∷_, _++_, append-nil, append-assoc}
+use mathlib.Core.List.{List, [], _∷_, _++_, append-nil}
 use Rattle.format.specs.Kind.{Kind, Field, Allowed}
 use Rattle.format.specs.Codec.{Codec, Lawful, Spelling, Writes, Strict, spellAll, Spelled, Outcome, found, refused}
-use Rattle.format.specs.Script.{Script, end, ask, run, Ends, Asks}
+use Rattle.format.specs.Script.{Script, end, ask, Ends, Asks}
 use Rattle.format.specs.ScriptLaws.{Halt, Whole, Accounted, run-ends, run-asks, run-accounts}
-use Rattle.format.specs.Format.{Format, fields, script}
-use Rattle.format.specs.FormatLaws.{ends-script, Taken, taken}
+use Rattle.format.specs.Format.{fields, script}
+use Rattle.format.specs.FormatLaws.{ends-script, taken}
 use Rattle.format.specs.Layout.{Layout, encode, parse}
 
 -- Every field is allowed by its own kind.

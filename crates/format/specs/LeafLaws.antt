@@ -1,6 +1,6 @@
 -- What the leaf codecs rest on. A field of m + n digits is a field of m digits and one of n: in the number that it writes, in a list that is read, and in one that is written.
 -- So each width is proved from its parts, by the same law.
-use mathlib.Core.Path.{_≡_, refl, sym, ap, _∙_}
+use mathlib.Core.Path.{_≡_, sym, ap, _∙_}
 use mathlib.Core.List.{List, [], _∷_, _++_, append-assoc}
 use Prim.Native.Nat.{ℕ, zero, suc, _+_, _*_, _/_, _%_, _^_, _≤_, _<_}
 use native.Mathlib.Nat.{zero-add, suc-add, add-assoc, mul-comm, pow-zero, div-add-mod', div-one, mod-eq-of-lt, div-div-eq-div-mul}

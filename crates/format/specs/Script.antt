@@ -3,7 +3,7 @@ use mathlib.Core.Path.{_≡_}
 use Prim.Native.Nat.{ℕ}
 use mathlib.Core.List.{List, [], _∷_}
 use Rattle.format.specs.Kind.{Kind, Field, Allowed}
-use Rattle.format.specs.Codec.{Codec, Outcome, found, refused, andThen}
+use Rattle.format.specs.Codec.{Codec, Outcome, found, andThen}
 
 pub data Script (R : Type 0) : Type 0 where
   end : R → Script R

@@ -1,5 +1,5 @@
 -- What running a script comes to, for any lawful codec: exactly the fields that the units spell.
-use mathlib.Core.Path.{_≡_, refl, sym, ap, _∙_, subst}
+use mathlib.Core.Path.{_≡_, refl, _∙_}
 use Prim.Native.Nat.{ℕ}
 use mathlib.Core.List.{List, [], _∷_, _++_, append-assoc}
 use Rattle.format.specs.Kind.{Kind, Field, Allowed}

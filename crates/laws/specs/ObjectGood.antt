@@ -1,23 +1,14 @@
 -- When an object is good, by its cases: a leaf if its fields are, a group if it may nest here and all that it holds is good.
-use mathlib.Core.Path.{_≡_, refl, sym, ap, _∙_}
-use mathlib.Core.Logic.{_↔_}
-use mathlib.Core.Bool.{Bool, true, false}
-use mathlib.Core.Option.{Option, none, some}
-use Prim.Native.Nat.{ℕ, zero, suc, _^_, _<_}
-use Prim.Native.Char.{code}
-use mathlib.Core.List.{List, [], _∷_}
-use lib.ListN.{length}
+use mathlib.Core.Path.{_≡_, refl}
+use Prim.Native.Nat.{ℕ, zero, suc}
 use native.Mathlib.Omega.{arith}
-use Rattle.format.specs.Kind.{Allowed}
-use Rattle.format.specs.Format.{Each}
-use Rattle.format.specs.Layout.{Layout, _&_}
-use Rattle.drawing.specs.Fields.{objectId, count}
+use Rattle.format.specs.Layout.{_&_}
 use Rattle.drawing.specs.String.{String}
-use Rattle.drawing.specs.Path.{Path, path as pathSpecs}
-use Rattle.drawing.specs.Text.{Text, text as textSpecs}
-use Rattle.drawing.specs.Bitmap.{Bitmap, bitmap as bitmapSpecs}
-use Rattle.drawing.specs.Object.{Leaf, path, text, bitmap, Object, leaf, group, Objects, listOf, ofList}
+use Rattle.drawing.specs.Path.{path as pathSpecs}
+use Rattle.drawing.specs.Text.{text as textSpecs}
+use Rattle.drawing.specs.Bitmap.{bitmap as bitmapSpecs}
+use Rattle.drawing.specs.Object.{Leaf, path, text, bitmap, leaf, group, Objects}
 use Rattle.drawing.specs.ObjectLayout.{object, tail, groupBody}
 
 -- A leaf's fields are good in this version.
 abbrev pub GoodLeaf : ℕ → Leaf → String → Type 0

@@ -1,41 +1,21 @@
 -- What walking over one row, and over one body, of a table comes to, both ways. Nothing here knows of objects.
-use mathlib.Core.Path.{_≡_, refl, sym, ap, ap₂, _∙_, subst}
-use mathlib.Core.Logic.{_↔_}
-use mathlib.Core.Bool.{Bool, true, false, cond, _&&_}
+use mathlib.Core.Path.{_≡_, refl, sym, ap, ap₂, _∙_}
+use mathlib.Core.Bool.{Bool, true, false}
 use mathlib.Core.Option.{Option, none, some}
-use Prim.Native.Nat.{ℕ, zero, suc, _+_, _-_, _*_, _%_, _/_, _^_, _<_, _≤_}
+use Prim.Native.Nat.{ℕ, suc, _+_, _-_, _^_}
 use mathlib.Core.List.{List, [], _∷_, _++_, append-nil, append-assoc}
-use lib.ListN.{length, getD, length-append}
-use lib.Dec.{eqb, leb}
+use lib.ListN.{length, length-append}
 use native.Mathlib.Omega.{arith}
 use native.Mathlib.Nat as Nat
-use borrow.Author.Tests.{eqb-true, eq-eqb, leb-true, le-leb}
 use Rattle.format.specs.Digits.{Below}
 use Rattle.format.specs.Codec.{Outcome, found, refused}
-use Rattle.format.specs.FixedCodec.{cut, words, wordFields, spellFixed}
+use Rattle.format.specs.FixedCodec.{cut, words, wordFields}
 use Rattle.format.specs.FixedCodecLaws.{words-sensible, words-literal, CutSays, cut-says, below-behind}
-use Rattle.format.specs.Layout.{Layout, parse, encode}
+use Rattle.format.specs.Layout.{Layout, parse}
 use Rattle.format.specs.FixedLayoutLaws.{parse-encoded, parsed-good}
 use Rattle.drawing.specs.Table.{wordsOf, row}
+use Rattle.laws.specs.SameLaws.{same-refl, same-true}
 use Rattle.drawing.specs.TableDrawing.{Place, Walk, met, lost, onward, provided, same, rowFrom, nextRow, bodyFrom, body}
-
--- ---- lists that are the same
-
-pub same-refl : (xs : List ℕ) → same xs xs ≡ true
-same-refl [] = refl
-same-refl (x ∷ xs) = rw (eq-eqb x x refl, same-refl xs)
-
-and-true : (a b : Bool) → (a && b) ≡ true → (a ≡ true) × (b ≡ true)
-and-true true b e = (refl, e)
-and-true false b e = let z : _≡_ {A = Bool} false true = e in (cc, cc)
-
-pub same-true : (xs ys : List ℕ) → same xs ys ≡ true → xs ≡ ys
-same-true [] [] e = refl
-same-true [] (y ∷ ys) e = let z : _≡_ {A = Bool} false true = e in absurd (let y : _≡_ {A = ℕ} 0 1 = cc in omega arith)
-same-true (x ∷ xs) [] e = let z : _≡_ {A = Bool} false true = e in absurd (let y : _≡_ {A = ℕ} 0 1 = cc in omega arith)
-same-true (x ∷ xs) (y ∷ ys) e =
-    let b = and-true (eqb x y) (same xs ys) e in
-    ap₂ {C = List ℕ} (λ a l. a ∷ l) (eqb-true x y (b .0)) (same-true xs ys (b .1))
 
 -- ---- bodies
 

@@ -2,7 +2,7 @@
 use mathlib.Core.Path.{_≡_, refl, sym, ap, ap₂, _∙_, subst}
 use mathlib.Core.Logic.{_↔_, _⊎_, inl, inr}
 use mathlib.Core.Bool.{Bool, true, false, cond}
-use Prim.Native.Nat.{ℕ, suc, _<_, _≤_, _+_, _-_}
+use Prim.Native.Nat.{ℕ, _<_, _≤_, _-_}
 use mathlib.Core.List.{List, [], _∷_, _++_, append-nil}
 use lib.ListN.{length, length-append}
 use lib.Dec.{ltb}
@@ -13,10 +13,10 @@ use Rattle.format.specs.Codec.{Outcome, found, refused, spellAll}
 use Rattle.format.specs.FixedCodec.{bytes, byteFields, spellFixed, Cut, Faulty}
 use Rattle.format.specs.FixedCodecLaws.{bytes-sensible, bytes-literal, fault-positive}
 use Rattle.format.specs.Layout.{parse}
-use Rattle.format.specs.FixedLayoutLaws.{Stopped, parse-encoded, parse-encoded-alone, parsed-good, encode-unique, refused-stopped}
+use Rattle.format.specs.FixedLayoutLaws.{parse-encoded, parse-encoded-alone, parsed-good, encode-unique, refused-stopped}
 use Rattle.drawing.specs.Limits.{lengthLimit}
-use Rattle.drawing.specs.Drawing.{Drawing, file, fileOf, Acceptable, Reading, drawing, refusal, reading, drawingOf}
-use Rattle.drawing.specs.Refusal.{fileScript, TooLong, AtField, Trailing, Refused}
+use Rattle.drawing.specs.Drawing.{Drawing, file, fileOf, Acceptable, drawing, refusal, reading, drawingOf}
+use Rattle.drawing.specs.Refusal.{AtField, Trailing, Refused}
 
 -- No two drawings have the same file.
 pub file-unique : (d e : Drawing) → file .Good d → file .Good e → fileOf d ≡ fileOf e → d ≡ e

@@ -1,40 +1,31 @@
 -- What is walked over is a good object's part of a table.
-use mathlib.Core.Path.{_≡_, refl, sym, ap, ap₂, _∙_, subst, subst₂, subst₃}
-use mathlib.Core.Logic.{_↔_}
-use mathlib.Core.Bool.{Bool, true, false, cond, _&&_}
-use mathlib.Core.Option.{Option, none, some}
-use Prim.Native.Nat.{ℕ, zero, suc, _+_, _-_, _*_, _%_, _/_, _^_, _<_, _≤_}
-use mathlib.Core.List.{List, [], _∷_, _++_, append-nil, append-assoc}
-use lib.ListN.{length, getD, length-append}
-use lib.Seq.{getD-append-seam}
-use lib.Dec.{eqb, leb}
-use native.Mathlib.Omega.{arith}
+use mathlib.Core.Path.{_≡_, refl, sym, ap, _∙_, subst, subst₂, subst₃}
+use mathlib.Core.Bool.{Bool, true, false}
+use Prim.Native.Nat.{ℕ, zero, suc, _+_, _-_, _^_}
+use mathlib.Core.List.{List, _∷_, _++_}
+use lib.ListN.{length, getD}
+use lib.Dec.{eqb}
 use native.Mathlib.Nat as Nat
-use native.Mathlib.Numerals.{add-one}
-use borrow.Author.Tests.{eqb-true, eq-eqb, leb-true, le-leb}
+use borrow.Author.Tests.{eqb-true}
 use Rattle.format.specs.Digits.{Below}
 use Rattle.format.specs.Kind.{Allowed}
-use Rattle.format.specs.Codec.{Outcome, found, refused, spellAll}
-use Rattle.format.specs.FixedCodec.{words, wordFields, spellFixed}
-use Rattle.format.specs.FixedCodecLaws.{words-sensible, words-literal}
-use Rattle.format.specs.Format.{Each, fields}
+use Rattle.format.specs.Format.{Each}
 use Rattle.format.specs.FormatLaws.{each-length}
-use Rattle.format.specs.Layout.{Layout, parse, encode, _&_}
-use Rattle.format.specs.FixedLayoutLaws.{parse-encoded, parsed-good}
+use Rattle.format.specs.Layout.{Layout, _&_}
 use Rattle.drawing.specs.Fields.{count}
 use Rattle.drawing.specs.String.{String}
 use Rattle.drawing.specs.Path.{path as pathSpecs}
 use Rattle.drawing.specs.Text.{text as textSpecs}
 use Rattle.drawing.specs.Bitmap.{bitmap as bitmapSpecs}
-use Rattle.drawing.specs.Object.{Leaf, path, text, bitmap, Object, leaf, group, Objects, none, more, listOf, ofList}
+use Rattle.drawing.specs.Object.{path, text, bitmap, Object, leaf, group, Objects, listOf, ofList}
 use Rattle.drawing.specs.ObjectLayout.{object, tail, groupBody}
 use Rattle.drawing.specs.ObjectLaws.{list-of-list}
-use Rattle.drawing.specs.WalkComplete.{AllGood, how-many}
-use Rattle.drawing.specs.ObjectGood.{GoodLeaf, leaf-good, good-leaf, group-good, good-group, no-group}
+use Rattle.laws.specs.WalkComplete.{AllGood, how-many}
+use Rattle.laws.specs.ObjectGood.{leaf-good, group-good}
 use Rattle.drawing.specs.Table as Table
-use Rattle.drawing.specs.Table.{wordsOf, leafKind, leafWords, groupKind, groupOwn, groupWords, howMany, rows, rowsAll, bodies, bodiesAll, row, contents, contentsAll, contentsOf, bodiesOf}
-use Rattle.drawing.specs.TableDrawing.{Place, Walk, met, lost, onward, provided, same, nextRow, body, leafBody, walkMany, walkGroup, walkLeaf, walkKind, walkObject}
-use Rattle.drawing.specs.WalkLaws.{same-refl, same-true, body-met, Holding, holding-onward, holding-provided, Over, over-both, over-below, RowMet, next-row-holds, BodyMet, body-holds, leaf-over, group-over}
+use Rattle.drawing.specs.Table.{groupKind, groupOwn, groupWords, howMany, rows, rowsAll, bodies, bodiesAll, row, contents, contentsAll}
+use Rattle.drawing.specs.TableDrawing.{Place, Walk, met, lost, onward, provided, nextRow, body, leafBody, walkMany, walkGroup, walkLeaf, walkKind, walkObject}
+use Rattle.laws.specs.WalkLaws.{Holding, holding-onward, holding-provided, Over, over-both, over-below, RowMet, next-row-holds, BodyMet, body-holds, leaf-over, group-over}
 
 -- ---- what is walked over is a good drawing's table
 

@@ -2,28 +2,27 @@
 -- same table. A call answers 0 exactly when its definition says so, and then with the drawing's own counts.
 use mathlib.Core.Path.{_≡_, refl, sym, ap, ap₂, _∙_, subst}
 use mathlib.Core.Logic.{_↔_}
-use mathlib.Core.Bool.{Bool, true, false, cond}
 use mathlib.Core.Option.{Option, none, some}
-use Prim.Native.Nat.{ℕ, zero, suc, _+_, _*_, _/_, _^_, _<_, _≤_}
-use mathlib.Core.List.{List, [], _∷_, _++_}
+use Prim.Native.Nat.{ℕ, zero, suc, _*_, _/_, _^_, _≤_}
+use mathlib.Core.List.{List}
 use lib.ListN.{length, take, drop}
 use lib.Seq.{take-at}
 use lib.Dec.{leb}
 use native.Mathlib.Omega.{arith}
 use borrow.Author.Tests.{leb-true, le-leb}
 use Rattle.format.specs.Digits.{Below}
 use Rattle.drawing.specs.Fields.{unless, first}
 use Rattle.drawing.specs.FieldLaws.{unless-zero, first-zero}
 use Rattle.format.specs.FixedCodec.{byteFields}
 use Rattle.format.specs.FixedCodecLaws.{bytes-sensible, below-spelled}
 use Rattle.format.specs.Format.{fields}
 use Rattle.drawing.specs.Drawing.{Drawing, outer, file as fileLayout, fileOf, Acceptable, Reading, drawing, refusal, drawingOf}
-use Rattle.drawing.specs.DrawingLaws.{drawing-of-bytes, refusal-positive}
+use Rattle.laws.specs.DrawingLaws.{drawing-of-bytes, refusal-positive}
 use Rattle.drawing.specs.Table.{rows, headWords, contentsOf, bodiesOf}
 use Rattle.drawing.specs.TableDrawing.{drawingOfTable}
-use Rattle.drawing.specs.TableLaws.{IsTable, drawing-of-table, table-complete}
-use Rattle.drawing.specs.OrderLaws.{contents-length}
-use Rattle.drawing.specs.Answers.{answer, rowsOf, wordCount, over, ReadResult, roomFault, stored, readFrom, readResult, checkFrom, checkAnswer, Output, written, writeFrom, writeOutput}
+use Rattle.laws.specs.TableLaws.{IsTable, drawing-of-table, table-complete}
+use Rattle.laws.specs.OrderLaws.{contents-length}
+use Rattle.drawing.specs.Answers.{answer, rowsOf, wordCount, over, ReadResult, roomFault, stored, readFrom, readResult, Output, written, writeFrom, writeOutput}
 
 -- What stands at the beginning is what was put there.
 pub take-over : (new lent : List ℕ) (n : ℕ) → length new ≡ n → take n (over new lent) ≡ new

@@ -1,21 +1,19 @@
 -- When a drawing is good, by its parts, as a table's head and outer group show them.
-use mathlib.Core.Path.{_≡_, refl, sym, ap, _∙_}
-use mathlib.Core.Bool.{Bool, true, false, _&&_}
-use mathlib.Core.Option.{Option, none}
-use Prim.Native.Nat.{ℕ, zero, suc, _+_, _-_, _^_, _<_, _≤_}
-use Prim.Native.Char.{code}
+use mathlib.Core.Path.{_≡_, refl, ap}
+use mathlib.Core.Bool.{true, _&&_}
+use Prim.Native.Nat.{ℕ, zero, suc, _+_, _-_, _≤_}
 use lib.Dec.{leb}
 use native.Mathlib.Omega.{arith}
 use borrow.Author.Tests.{leb-true, le-leb}
 use mir.Syntax.{w32}
 use mir.Val.{toZ}
 use Rattle.format.specs.Kind.{Allowed}
 use Rattle.drawing.specs.Limits.{lastMinor, depthLimit}
 use Rattle.drawing.specs.Fields.{unless, inRange, integerIn, versionChars, versionZero}
 use Rattle.drawing.specs.FieldLaws.{unless-zero, in-range, and-both}
 use Rattle.drawing.specs.Settings.{settings}
 use Rattle.drawing.specs.ObjectLayout.{object, groupBody}
 use Rattle.drawing.specs.Drawing.{Drawing, file}
 
 small : (v : ℕ) → v ≤ 4 → inRange 0 4 (toZ w32 v) ≡ true
 small zero h = refl

@@ -3,33 +3,34 @@ use mathlib.Core.Path.{_≡_, refl, sym, ap, ap₂, _∙_, subst, subst₂}
 use mathlib.Core.Logic.{_↔_}
 use mathlib.Core.Bool.{Bool, true, false, cond, _&&_}
 use mathlib.Core.Option.{Option, none, some, Option·some-injective, Option·none-ne-some}
-use Prim.Native.Nat.{ℕ, suc, _+_, _-_, _%_, _/_, _^_, _<_, _≤_}
+use Prim.Native.Nat.{ℕ, suc, _+_, _-_, _^_, _≤_}
 use mathlib.Core.List.{List, [], _∷_, _++_, append-nil}
 use lib.ListN.{length}
 use lib.Dec.{leb}
 use native.Mathlib.Omega.{arith}
 use borrow.Author.Tests.{leb-true, le-leb}
 use Rattle.format.specs.Digits.{Below}
-use Rattle.format.specs.Codec.{Outcome, found, refused, spellAll}
-use Rattle.format.specs.FixedCodec.{words, wordFields, spellFixed}
+use Rattle.format.specs.Codec.{Outcome, found, refused}
+use Rattle.format.specs.FixedCodec.{words, wordFields}
 use Rattle.format.specs.FixedCodecLaws.{words-sensible, words-literal, below-behind}
-use Rattle.format.specs.Layout.{Layout, parse}
+use Rattle.format.specs.Layout.{parse}
 use Rattle.format.specs.FixedLayoutLaws.{parse-encoded, parsed-good}
 use Rattle.drawing.specs.Limits.{lengthLimit, depthLimit}
 use Rattle.format.specs.Kind.{Allowed}
 use Rattle.drawing.specs.Fields.{count}
 use Rattle.drawing.specs.FieldLaws.{and-both}
 use Rattle.drawing.specs.String.{String}
 use Rattle.drawing.specs.Settings.{Settings, settings}
-use Rattle.drawing.specs.Object.{Object, Objects, group, listOf, ofList}
+use Rattle.drawing.specs.Object.{Objects, listOf}
 use Rattle.drawing.specs.ObjectLayout.{object, groupBody}
 use Rattle.drawing.specs.Drawing.{Drawing, outer, file, fileOf, Acceptable}
-use Rattle.drawing.specs.FileGood.{Parts, file-parts, parts-file}
+use Rattle.laws.specs.FileGood.{Parts, file-parts, parts-file}
 use Rattle.drawing.specs.Table.{wordsOf, groupKind, groupOwn, groupWords, howMany, rows, rowsAll, bodies, bodiesAll, row, contents, contentsAll, headWords, contentsOf, bodiesOf}
-use Rattle.drawing.specs.TableDrawing.{Place, Walk, met, lost, onward, same, nextRow, walkGroup, walkObject, tableHead, walkOuter, ended, wholeTable, behindHead, drawingOfTable}
-use Rattle.drawing.specs.WalkLaws.{same-true, words-used, Holding, holding-onward, RowMet, next-row-holds}
-use Rattle.drawing.specs.WalkComplete.{place, one-word, how-many, objects-of-list, group-met, walk-many, next-row, next-word}
-use Rattle.drawing.specs.WalkSound.{GroupMet, group-holds, object-holds, row-below}
+use Rattle.drawing.specs.TableDrawing.{Place, Walk, met, lost, same, nextRow, walkGroup, walkObject, tableHead, walkOuter, ended, wholeTable, behindHead, drawingOfTable}
+use Rattle.laws.specs.SameLaws.{same-true}
+use Rattle.laws.specs.WalkLaws.{words-used, Holding, holding-onward, RowMet, next-row-holds}
+use Rattle.laws.specs.WalkComplete.{place, one-word, how-many, objects-of-list, group-met, walk-many, next-word}
+use Rattle.laws.specs.WalkSound.{GroupMet, group-holds, object-holds, row-below}
 
 -- A table is this drawing's.
 pub record IsTable (contents bodies : List ℕ) (d : Drawing) : Type 0 where

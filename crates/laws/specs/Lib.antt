@@ -1,0 +1,12 @@
+-- The laws of the drawing layer: that the definitions hang together and make the customer's demands.
+pub mod ObjectGood
+pub mod FileGood
+pub mod SameLaws
+pub mod WalkLaws
+pub mod WalkComplete
+pub mod WalkSound
+pub mod TableLaws
+pub mod DrawingLaws
+pub mod OrderLaws
+pub mod EntryLaws
+pub mod AnswerLaws
