@@ -5,10 +5,10 @@ use mathlib.Core.List.{List, _++_}
 use lib.ListN.{length, drop}
 use lib.Dec.{leb}
 use Rattle.drawing.specs.declared.Answer.{Answer}
-use Rattle.drawing.specs.Fields.{unless, first}
+use Rattle.drawing.specs.Fields.{unless, orElse}
 use Rattle.drawing.specs.String.{String}
 use Rattle.drawing.specs.Drawing.{Drawing, outer, fileOf, Reading, drawing, refusal, drawingOf}
-use Rattle.drawing.specs.Table.{rows, contentsOf, bodiesOf}
+use Rattle.drawing.specs.Table.{rows, rowWidth, contentsOf, bodiesOf}
 use Rattle.drawing.specs.TableDrawing.{drawingOfTable}
 use Rattle.drawing.specs.Order.{entries}
 
@@ -22,8 +22,8 @@ abbrev pub wordCount : Drawing → ℕ
 wordCount d = length (bodiesOf d)
 
 -- Lent memory with these elements at its beginning; what lies past them is as before.
-abbrev pub over : List ℕ → List ℕ → List ℕ
-over new lent = new ++ drop (length new) lent
+abbrev pub overwrite : List ℕ → List ℕ → List ℕ
+overwrite new buffer = new ++ drop (length new) buffer
 
 -- ---- reading a file into a table
 
@@ -35,12 +35,12 @@ pub record ReadResult : Type 0 where
 -- What the lent room lacks for a drawing's table: rows, of four words each, and then words.
 abbrev pub roomFault : Drawing → (contents bodies : List ℕ) → ℕ
 roomFault d contents bodies =
-    first (unless (leb (rowsOf d) (length contents / 4)) 14) (unless (leb (wordCount d) (length bodies)) 15)
+    orElse (unless (leb (rowsOf d) (length contents / rowWidth)) 14) (unless (leb (wordCount d) (length bodies)) 15)
 
 -- A drawing, of a file of this length, that is stored unless the room has a fault.
 abbrev pub stored : (fault : ℕ) → Drawing → ℕ → (contents bodies : List ℕ) → ReadResult
 stored zero d total contents bodies =
-    record { answer = answer 0 total (rowsOf d) (wordCount d); contents = over (contentsOf d) contents; bodies = over (bodiesOf d) bodies }
+    record { answer = answer 0 total (rowsOf d) (wordCount d); contents = overwrite (contentsOf d) contents; bodies = overwrite (bodiesOf d) bodies }
 stored (suc n) d total contents bodies =
     record { answer = answer (suc n) total (rowsOf d) (wordCount d); contents = contents; bodies = bodies }
 
@@ -68,15 +68,15 @@ checkAnswer contents bodies = checkFrom (drawingOfTable contents bodies)
 -- An answer, with what a run that was lent for output then holds.
 pub record Output : Type 0 where
   pub answer : Answer
-  pub lent : List ℕ
+  pub buffer : List ℕ
 
 abbrev pub written : (fault : ℕ) → Drawing → (file : List ℕ) → Output
 written zero d file =
-    record { answer = answer 0 (length (fileOf d)) (rowsOf d) (wordCount d); lent = over (fileOf d) file }
-written (suc n) d file = record { answer = answer (suc n) (length (fileOf d)) 0 0; lent = file }
+    record { answer = answer 0 (length (fileOf d)) (rowsOf d) (wordCount d); buffer = overwrite (fileOf d) file }
+written (suc n) d file = record { answer = answer (suc n) (length (fileOf d)) 0 0; buffer = file }
 
 abbrev pub writeFrom : Option Drawing → (file : List ℕ) → Output
-writeFrom none file = record { answer = noTable; lent = file }
+writeFrom none file = record { answer = noTable; buffer = file }
 writeFrom (some d) file = written (unless (leb (length (fileOf d)) (length file)) 17) d file
 
 abbrev pub writeOutput : (contents bodies file : List ℕ) → Output
@@ -85,11 +85,11 @@ writeOutput contents bodies file = writeFrom (drawingOfTable contents bodies) fi
 -- ---- listing the objects with a label
 
 abbrev pub listed : (fault : ℕ) → (entries list : List ℕ) → Output
-listed zero entries list = record { answer = answer 0 0 (length entries) 0; lent = over entries list }
-listed (suc n) entries list = record { answer = answer (suc n) (length entries) 0 0; lent = list }
+listed zero entries list = record { answer = answer 0 0 (length entries) 0; buffer = overwrite entries list }
+listed (suc n) entries list = record { answer = answer (suc n) (length entries) 0 0; buffer = list }
 
 abbrev pub listFrom : Option Drawing → String → (list : List ℕ) → Output
-listFrom none label list = record { answer = noTable; lent = list }
+listFrom none label list = record { answer = noTable; buffer = list }
 listFrom (some d) label list = listed (unless (leb (length (entries label d)) (length list)) 18) (entries label d) list
 
 abbrev pub listOutput : (contents bodies : List ℕ) → String → (list : List ℕ) → Output

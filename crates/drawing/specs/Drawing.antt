@@ -7,8 +7,9 @@ use mathlib.Core.List.{List, [], _∷_}
 use lib.ListN.{length}
 use lib.Dec.{ltb, eqb}
 use Rattle.format.specs.Codec.{Outcome, found, refused}
-use Rattle.format.specs.FixedCodec.{bytes, byteFields, spellFixed}
-use Rattle.format.specs.Layout.{Layout, field, mark, renamed, encode, parse, _&_, _▸_}
+use Rattle.format.specs.FixedCodec.{spellFixed}
+use Rattle.drawing.specs.Codecs.{bytes, byteFields}
+use Rattle.format.specs.Layout.{Layout, field, constant, renamed, encode, parse, _&_, _▸_}
 use Rattle.drawing.specs.Limits.{lengthLimit, depthLimit}
 use Rattle.drawing.specs.Fields.{magic, jdr, versionLength, versionChars, versionZero, charWhere}
 use Rattle.drawing.specs.FieldLaws.{magic-only, version-length-only, outer-only, version-back}
@@ -34,12 +35,12 @@ version = renamed (field versionChars) (λ c. c - versionZero) (λ m. versionZer
 
 -- The outer object has to be a group. It is the first level of nesting.
 abbrev pub outerGroup : ℕ → Layout (Objects × String)
-outerGroup v = mark (charWhere (λ c. eqb c (code "G"))) (code "G") outer-only (groupBody v (object v (depthLimit - 1)))
+outerGroup v = constant (charWhere (λ c. eqb c (code "G"))) (code "G") outer-only (groupBody v (object v (depthLimit - 1)))
 
 abbrev pub file : Layout Drawing
 file =
-    mark magic jdr magic-only
-    (mark versionLength 3 version-length-only
+    constant magic jdr magic-only
+    (constant versionLength 3 version-length-only
     (renamed
     (version ▸ λ v. settings v & outerGroup v)
     (λ (version, (settings, (members, description))). record { version = version; settings = settings; members = members; description = description })

@@ -1,15 +1,15 @@
--- What the kinds of field allow, as far as the layouts cite it: a flag has two values, a mark one, a letter is one of those listed.
+-- What the kinds of field allow, as far as the layouts cite it: a flag has two values, a constant field one, a letter is one of those listed.
 use mathlib.Core.Path.{_≡_, refl}
 use mathlib.Core.Bool.{Bool, true, false, _&&_}
 use Prim.Native.Nat.{ℕ, zero, suc, _<_, _≤_, _+_, _-_, _^_}
 use lib.Dec.{T, eqb, leb, ltb, ltb→lt}
-use borrow.Author.Tests.{eqb-true, eqb-false, ltb-true, leb-true}
+use borrow.Author.Tests.{eqb-true, eqb-false, leb-true}
 use native.Mathlib.Omega.{arith}
 use Rattle.format.specs.Kind.{Allowed}
 use lib.IntN.{pos, negsuc}
 use mir.Syntax.{Width, w8}
 use mir.Val.{toZ, sel, bits, hbits}
-use Rattle.drawing.specs.Fields.{unless, first, magic, jdr, versionLength, flag, flowFlag, byteIn, inRange, charWhere, versionChars, versionZero}
+use Rattle.drawing.specs.Fields.{unless, orElse, magic, jdr, versionLength, flag, flowFlag, byteIn, inRange, charWhere, versionChars, versionZero}
 use Rattle.drawing.specs.Limits.{lastMinor}
 use Prim.Native.Char.{code}
 
@@ -17,9 +17,9 @@ pub unless-zero : (t : Bool) (n : ℕ) → T (ltb 0 n) → unless t n ≡ 0 → 
 unless-zero true n h e = refl
 unless-zero false n h e = absurd (omega (arith, ltb→lt 0 n h))
 
-pub first-zero : (a b : ℕ) → first a b ≡ 0 → (a ≡ 0) × (b ≡ 0)
-first-zero zero b e = (refl, e)
-first-zero (suc n) b e = absurd (omega arith)
+pub orElse-zero : (a b : ℕ) → orElse a b ≡ 0 → (a ≡ 0) × (b ≡ 0)
+orElse-zero zero b e = (refl, e)
+orElse-zero (suc n) b e = absurd (omega arith)
 
 pub magic-only : (v : ℕ) → Allowed magic v → v ≡ jdr
 magic-only v a = eqb-true v jdr (unless-zero (eqb v jdr) 3 tt (a .faultless))
@@ -28,10 +28,10 @@ pub version-length-only : (v : ℕ) → Allowed versionLength v → v ≡ 3
 version-length-only v a = eqb-true v 3 (unless-zero (eqb v 3) 4 tt (a .faultless))
 
 pub flow-flag-only : (v : ℕ) → Allowed flowFlag v → v ≡ 0
-flow-flag-only v a = eqb-true v 0 (unless-zero (eqb v 0) 11 tt (first-zero (unless (ltb v 2) 5) (unless (eqb v 0) 11) (a .faultless) .1))
+flow-flag-only v a = eqb-true v 0 (unless-zero (eqb v 0) 11 tt (a .faultless))
 
 pub flag-below : (v : ℕ) → Allowed flag v → v < 2
-flag-below v a = ltb-true v 2 (unless-zero (ltb v 2) 5 tt (a .faultless))
+flag-below v a = a .fits
 
 pub flag-zero : (v : ℕ) → Allowed flag v → eqb v 1 ≡ false → v ≡ 0
 flag-zero v a e = let h = flag-below v a in let n = eqb-false v 1 e in omega arith

@@ -1,10 +1,11 @@
 -- The kinds of field of a drawing, each with the number that 01 gives to a value that is not allowed ('Fields', 'Numbers given back').
--- That a field is cut (2) comes before all of these, in reading the field. A field's value is the unsigned number of its bytes.
-use mathlib.Core.Bool.{Bool, true, false, not, _&&_, _||_}
+-- That a field is cut (2), and that a flag is neither 0 nor 1 (5), comes before all of these, in reading the field: see Codecs. A field's value is
+-- the unsigned number of its bytes.
+use mathlib.Core.Bool.{Bool, true, false, cond, _&&_, _||_}
 use Prim.Native.Nat.{ℕ, zero, suc, _+_, _%_, _^_}
 use Prim.Native.Char.{code}
 use mathlib.Core.List.{List, [], _∷_}
-use lib.Dec.{eqb, leb, ltb}
+use lib.Dec.{eqb, leb}
 use lib.IntN.{ℤ, pos}
 use lib.Signed.{leZ}
 use lib.Ieee.{binary32}
@@ -24,9 +25,9 @@ unless true n = 0
 unless false n = n
 
 -- The first of two faults.
-abbrev pub first : ℕ → ℕ → ℕ
-first zero other = other
-first (suc n) other = suc n
+abbrev pub orElse : ℕ → ℕ → ℕ
+orElse zero other = other
+orElse (suc n) other = suc n
 
 abbrev pub any : Shape → Kind
 any s = record { shape = s; fault = λ v. 0 }
@@ -54,11 +55,11 @@ versionChars =
 -- ---- flags, bytes, integers
 
 abbrev pub flag : Kind
-flag = record { shape = K.flag; fault = λ v. unless (ltb v 2) 5 }
+flag = any K.flag
 
--- no flow frame data is carried
+-- no flow frame data is carried: 1 is 11
 abbrev pub flowFlag : Kind
-flowFlag = record { shape = K.flag; fault = λ v. first (unless (ltb v 2) 5) (unless (eqb v 0) 11) }
+flowFlag = record { shape = K.flag; fault = λ v. unless (eqb v 0) 11 }
 
 -- The signed number is in the range.
 abbrev pub inRange : ℕ → ℕ → ℤ → Bool
@@ -81,6 +82,14 @@ fontSize = record { shape = K.integer; fault = λ v. unless (leZ (pos 0) (toZ w3
 abbrev pub count : ℕ → Kind
 count least = record { shape = K.integer; fault = λ v. unless (leZ (pos least) (toZ w32 v)) 8 }
 
+-- how many objects a group has
+abbrev pub memberCount : Kind
+memberCount = count 1
+
+-- how many segments a path has
+abbrev pub segmentCount : Kind
+segmentCount = count 1
+
 abbrev pub dashCount : Kind
 dashCount = record { shape = K.integer; fault = λ v. unless (leZ (pos 0) (toZ w32 v) && eqb (v % 2) 0) 8 }
 
@@ -100,21 +109,15 @@ abbrev pub oneOfChars : List ℕ → ℕ → Bool
 oneOfChars [] c = false
 oneOfChars (x ∷ xs) c = eqb c x || oneOfChars xs c
 
--- an object's id: a group's only where it may nest deeper
-abbrev pub objectId : Bool → Kind
-objectId deeper =
-    record {
-      shape = K.char;
-      fault = λ v.
-          first
-          (unless (oneOfChars (code "G" ∷ code "P" ∷ code "T" ∷ code "I" ∷ []) v) 7)
-          (unless (deeper || not (eqb v (code "G"))) 10);
-    }
+-- an object's id: that of a leaf, or a group's, which may not nest too deep
+abbrev pub objectId : (leaf : ℕ → Bool) (deeper : Bool) → Kind
+objectId leaf deeper =
+    record { shape = K.char; fault = λ v. cond (leaf v) 0 (cond (eqb v (code "G")) (unless deeper 10) 7) }
 
 -- a marker's id: one that is not 0 only where the chain may go on
 abbrev pub markerId : ℕ → Bool → Kind
 markerId high more =
-    record { shape = K.byte; fault = λ v. first (unless (inRange 0 high (toZ w8 v)) 6) (unless (more || eqb v 0) 10) }
+    record { shape = K.byte; fault = λ v. orElse (unless (inRange 0 high (toZ w8 v)) 6) (unless (more || eqb v 0) 10) }
 
 -- ---- floats and doubles
 

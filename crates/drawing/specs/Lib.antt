@@ -1,5 +1,6 @@
 -- The drawing layer: JDR drawings of the versions 1.0 to 1.4, their files and tables, and what each call answers.
 pub mod Limits
+pub mod Codecs
 pub mod Fields
 pub mod FieldLaws
 pub mod String
@@ -15,6 +16,8 @@ pub mod Bitmap
 pub mod SettingsLaws
 pub mod Settings
 pub mod Object
+pub mod ObjectId
+pub mod LeafLayout
 pub mod ObjectLaws
 pub mod ObjectLayout
 pub mod Drawing

@@ -9,7 +9,7 @@ use borrow.Author.Tests.{eqb-true}
 use Rattle.format.specs.Kind.{Allowed}
 use Rattle.format.specs.Format.{Made}
 use Rattle.drawing.specs.Fields.{markerId, unless, inRange}
-use Rattle.drawing.specs.FieldLaws.{unless-zero, first-zero}
+use Rattle.drawing.specs.FieldLaws.{unless-zero, orElse-zero}
 use Rattle.drawing.specs.Marker.{Marker, markerBody, marker, arrow}
 use mir.Syntax.{w8}
 use mir.Val.{toZ}
@@ -27,7 +27,7 @@ body-id v id m g = by (leb 1 v) g
 
 pub last-id : (high id : ℕ) (ms : List Marker) → Allowed (markerId high false) id → ms ≡ [] → firstId ms ≡ id
 last-id high id ms a e =
-    let z = eqb-true id 0 (unless-zero (eqb id 0) 10 tt (first-zero (unless (inRange 0 high (toZ w8 id)) 6) (unless (eqb id 0) 10) (a .faultless) .1)) in
+    let z = eqb-true id 0 (unless-zero (eqb id 0) 10 tt (orElse-zero (unless (inRange 0 high (toZ w8 id)) 6) (unless (eqb id 0) 10) (a .faultless) .1)) in
     rw e (sym z)
 
 pub chain-id : {A : Type 0} (P : A → Type 0) (make : A → List Marker) (id : ℕ) → ((a : A) → P a → firstId (make a) ≡ id)

@@ -1,47 +1,52 @@
--- An object's id is one of the letters listed where it is allowed, and lists of objects are runs of objects.
-use mathlib.Core.Path.{_≡_, refl, ap}
-use mathlib.Core.Bool.{Bool, true, false, not, _||_}
+-- A good object tells its id, and lists of objects are runs of objects.
+use mathlib.Core.Path.{_≡_, refl, sym, ap}
+use mathlib.Core.Bool.{Bool, true, false, cond}
 use Prim.Native.Nat.{ℕ}
 use Prim.Native.Char.{code}
 use mathlib.Core.List.{List, [], _∷_}
 use lib.Dec.{eqb}
+use native.Mathlib.Omega.{arith}
+use borrow.Author.Tests.{eqb-true}
 use Rattle.format.specs.Kind.{Allowed}
-use Rattle.drawing.specs.Fields.{unless, first, oneOfChars, objectId}
-use Rattle.drawing.specs.FieldLaws.{unless-zero, first-zero}
-use Rattle.drawing.specs.Object.{Object, listOf, ofList}
+use Rattle.format.specs.Format.{Made}
+use Rattle.format.specs.Layout.{Layout}
+use Rattle.format.specs.AlternativeLaws.{told-tells}
+use Rattle.drawing.specs.Fields.{objectId}
+use Rattle.drawing.specs.String.{String}
+use Rattle.drawing.specs.Object.{Object, leaf, group, Objects, listOf, ofList}
+use Rattle.drawing.specs.ObjectId.{objectLetter, leafOf, groupOf}
+use Rattle.drawing.specs.LeafLayout.{pathCase, otherCases, isLeaf, leafBody}
 
 pub list-of-list : (os : List Object) → listOf (ofList os) ≡ os
 list-of-list [] = refl
 list-of-list (o ∷ os) = ap {B = List Object} (λ l. o ∷ l) (list-of-list os)
 
--- One of the four letters is one of the others where it is not the first.
-others : (g p t i : Bool) → (g || (p || (t || (i || false)))) ≡ true → not g ≡ true → (t || (i || p)) ≡ true
-others true p t i h n = let z : _≡_ {A = Bool} false true = n in cc
-others false p true i h n = refl
-others false p false true h n = refl
-others false true false false h n = refl
-others false false false false h n = h
+-- What an allowed id says: a leaf's, or a group's where one may nest.
+id-of-leaf : (l g : Bool) → cond {A = ℕ} l 0 (cond g 10 7) ≡ 0 → l ≡ true
+id-of-leaf true g e = refl
+id-of-leaf false true e = absurd (omega arith)
+id-of-leaf false false e = absurd (omega arith)
 
-all-four : (g p t i : Bool) → (g || (p || (t || (i || false)))) ≡ true → (t || (i || (g || p))) ≡ true
-all-four g p true i h = refl
-all-four g p false true h = refl
-all-four true p false false h = refl
-all-four false true false false h = refl
-all-four false false false false h = h
+id-of-group : (g : Bool) → cond {A = ℕ} g 0 7 ≡ 0 → g ≡ true
+id-of-group true e = refl
+id-of-group false e = absurd (omega arith)
 
--- What an allowed id says.
-allowed-id : (deeper : Bool) (c : ℕ) → Allowed (objectId deeper) c
-    → (oneOfChars (code "G" ∷ code "P" ∷ code "T" ∷ code "I" ∷ []) c ≡ true) × ((deeper || not (eqb c (code "G"))) ≡ true)
-allowed-id deeper c a =
-    let listed = oneOfChars (code "G" ∷ code "P" ∷ code "T" ∷ code "I" ∷ []) c in
-    let room = deeper || not (eqb c (code "G")) in
-    let n = first-zero (unless listed 7) (unless room 10) (a .faultless) in
-    (unless-zero listed 7 tt (n .0), unless-zero room 10 tt (n .1))
+leaf-letter : (v c : ℕ) (o : Object) → isLeaf v c ≡ true → Made (leafBody v c .Good) (λ (l, d). leaf l d) o (leafOf o) → objectLetter o ≡ c
+leaf-letter v c (leaf l d) h g = told-tells (pathCase v) (otherCases v) c l h (g .1 .0)
+leaf-letter v c (group os d) h g = absurd g
 
-pub leaf-listed : (c : ℕ) → Allowed (objectId false) c → (eqb c (code "T") || (eqb c (code "I") || eqb c (code "P"))) ≡ true
-leaf-listed c a =
-    let s = allowed-id false c a in
-    others (eqb c (code "G")) (eqb c (code "P")) (eqb c (code "T")) (eqb c (code "I")) (s .0) (s .1)
+pub leaf-tells : (v c : ℕ) (o : Object) → Allowed (objectId (isLeaf v) false) c → Made (leafBody v c .Good) (λ (l, d). leaf l d) o (leafOf o) → objectLetter o ≡ c
+leaf-tells v c o a g = leaf-letter v c o (id-of-leaf (isLeaf v c) (eqb c (code "G")) (a .faultless)) g
 
-pub object-listed : (c : ℕ) → Allowed (objectId true) c → (eqb c (code "T") || (eqb c (code "I") || (eqb c (code "G") || eqb c (code "P")))) ≡ true
-object-listed c a = all-four (eqb c (code "G")) (eqb c (code "P")) (eqb c (code "T")) (eqb c (code "I")) (allowed-id true c a .0)
+group-letter : (P : Objects × String → Type 0) (c : ℕ) (o : Object) → cond {A = ℕ} (eqb c (code "G")) 0 7 ≡ 0 → Made P (λ (os, d). group os d) o (groupOf o) → objectLetter o ≡ c
+group-letter P c (leaf l d) e g = absurd g
+group-letter P c (group os d) e g = sym (eqb-true c (code "G") (id-of-group (eqb c (code "G")) e))
+
+pub object-tells : (v : ℕ) (L : Layout (Objects × String)) (c : ℕ) (o : Object) → Allowed (objectId (isLeaf v) true) c
+    → cond (isLeaf v c) (Made (leafBody v c .Good) (λ (l, d). leaf l d) o (leafOf o)) (Made (L .Good) (λ (os, d). group os d) o (groupOf o)) → objectLetter o ≡ c
+object-tells v L c o a g = by (isLeaf v c) refl (a .faultless) g
+  where
+    by : (t : Bool) → isLeaf v c ≡ t → cond {A = ℕ} t 0 (cond (eqb c (code "G")) 0 7) ≡ 0
+        → cond t (Made (leafBody v c .Good) (λ (l, d). leaf l d) o (leafOf o)) (Made (L .Good) (λ (os, d). group os d) o (groupOf o)) → objectLetter o ≡ c
+    by true h e g = leaf-letter v c o h g
+    by false h e g = group-letter (L .Good) c o e g

@@ -22,8 +22,8 @@ pub data Plain : Type 0 where
 
 pub data Paint : Type 0 where
   plain : Plain → Paint
-  linear : (from to : Plain) (direction : ℕ) → Paint
-  radial : (from to : Plain) (location : ℕ) → Paint
+  linear : (start end : Plain) (direction : ℕ) → Paint
+  radial : (start end : Plain) (location : ℕ) → Paint
 
 abbrev pub plainLetter : Plain → ℕ
 plainLetter transparent = code "T"
@@ -45,8 +45,8 @@ components (cmyk c m y k a) = (c, (m, (y, (k, a))))
 components (grey g a) = (g, (a, (0, (0, 0))))
 components (hsb h s b a) = (h, (s, (b, (a, 0))))
 
-abbrev pub four : Plain → Option (ℕ × (ℕ × (ℕ × ℕ)))
-four p = let c = components p in some (c .0, (c .1 .0, (c .1 .1 .0, c .1 .1 .1 .0)))
+abbrev pub firstFour : Plain → Option (ℕ × (ℕ × (ℕ × ℕ)))
+firstFour p = let c = components p in some (c .0, (c .1 .0, (c .1 .1 .0, c .1 .1 .1 .0)))
 
 abbrev pub plainOf : Paint → Option Plain
 plainOf (plain p) = some p
@@ -66,10 +66,10 @@ transparentCase =
 
 abbrev pub plainCases : ℕ → List (Alternative Plain plainLetter)
 plainCases v =
-    alternative (code "R") true (field component & field component & field component & field component) (λ (r, (g, (b, a))). rgb r g b a) four (λ c. refl) (λ c. refl)
+    alternative (code "R") true (field component & field component & field component & field component) (λ (r, (g, (b, a))). rgb r g b a) firstFour (λ c. refl) (λ c. refl)
     ∷ alternative (code "C") true (field component & field component & field component & field component & field component) (λ (c, (m, (y, (k, a)))). cmyk c m y k a) (λ p. some (components p)) (λ c. refl) (λ c. refl)
     ∷ alternative (code "Y") (leb 4 v) (field component & field component) (λ (g, a). grey g a) (λ p. some (components p .0, components p .1 .0)) (λ c. refl) (λ c. refl)
-    ∷ alternative (code "S") (leb 4 v) (field hue & field component & field component & field component) (λ (h, (s, (b, a))). hsb h s b a) four (λ c. refl) (λ c. refl)
+    ∷ alternative (code "S") (leb 4 v) (field hue & field component & field component & field component) (λ (h, (s, (b, a))). hsb h s b a) firstFour (λ c. refl) (λ c. refl)
     ∷ []
 
 abbrev pub plainPaint : ℕ → Layout Plain
@@ -83,6 +83,6 @@ abbrev pub paint : ℕ → Layout Paint
 paint v =
     byChar paintLetter (asPaint transparentCase)
     (map asPaint (plainCases v)
-    ++ (alternative (code "G") true (plainPaint v & plainPaint v & field (integerIn 0 7)) (λ (from, (to, direction)). linear from to direction) gradientOf (λ g. refl) (λ g. refl)
-    ∷ alternative (code "D") (leb 3 v) (plainPaint v & plainPaint v & field (integerIn 0 8)) (λ (from, (to, location)). radial from to location) gradientOf (λ g. refl) (λ g. refl)
+    ++ (alternative (code "G") true (plainPaint v & plainPaint v & field (integerIn 0 7)) (λ (start, (end, direction)). linear start end direction) gradientOf (λ g. refl) (λ g. refl)
+    ∷ alternative (code "D") (leb 3 v) (plainPaint v & plainPaint v & field (integerIn 0 8)) (λ (start, (end, location)). radial start end location) gradientOf (λ g. refl) (λ g. refl)
     ∷ []))

@@ -10,7 +10,7 @@ use lib.Dec.{leb, ltb}
 use Rattle.format.specs.Layout.{Layout, field, when, threaded, implied, renamed, _&_}
 use Rattle.format.specs.FormatLaws.{each-length}
 use Rattle.format.specs.Choice.{alternative}
-use Rattle.drawing.specs.Fields.{double, joined, count, charWhere, oneOfChars}
+use Rattle.drawing.specs.Fields.{double, joined, segmentCount, charWhere, oneOfChars}
 use Rattle.drawing.specs.Choices.{byChar}
 use Rattle.drawing.specs.Paint.{Paint, paint}
 use Rattle.drawing.specs.LineStyle.{LineStyle, lineStyle}
@@ -31,7 +31,7 @@ pub record Path : Type 0 where
   pub fillPaint : Paint
   pub style : LineStyle
   -- the char O or C
-  pub closed : ℕ
+  pub openOrClosed : ℕ
   -- a field from 1.3 on; the origin below
   pub start : Point
   pub segments : List Segment
@@ -89,7 +89,7 @@ segments v n = threaded n (segment v) (λ before s. some (endOf s)) none
 abbrev pub outline : ℕ → Layout (Point × List Segment)
 outline v =
     implied
-    (field (count 1))
+    (field segmentCount)
     (λ n. when (leb 3 v) point origin & segments v n)
     (λ t. length (t .1))
     (λ n t allowed good. each-length (λ before. segment v before .Good) (λ before s. some (endOf s)) n none (t .1) (good .1))
@@ -98,7 +98,7 @@ abbrev pub path : ℕ → Layout Path
 path v =
     renamed
     (paint v & paint v & lineStyle v & field (charWhere (oneOfChars (code "O" ∷ code "C" ∷ []))) & outline v)
-    (λ (linePaint, (fillPaint, (style, (closed, (start, segments))))).
-    record { linePaint = linePaint; fillPaint = fillPaint; style = style; closed = closed; start = start; segments = segments })
-    (λ p. (p .linePaint, (p .fillPaint, (p .style, (p .closed, (p .start, p .segments))))))
+    (λ (linePaint, (fillPaint, (style, (openOrClosed, (start, segments))))).
+    record { linePaint = linePaint; fillPaint = fillPaint; style = style; openOrClosed = openOrClosed; start = start; segments = segments })
+    (λ p. (p .linePaint, (p .fillPaint, (p .style, (p .openOrClosed, (p .start, p .segments))))))
     (λ t good. refl)

@@ -1,9 +1,9 @@
 -- What the paint question and the text question answer, and which of two texts is shown (01, 'Paint', 'Text to show').
 use mathlib.Core.Bool.{cond}
 use mathlib.Core.Option.{Option, none, some, Option·map}
-use Prim.Native.Nat.{ℕ, _+_, _*_}
+use Prim.Native.Nat.{ℕ, _+_, _-_}
 use mathlib.Core.List.{List, []}
-use lib.ListN.{length, getD, getElem?}
+use lib.ListN.{length, getElem?}
 use lib.Dec.{ltb}
 use lib.Ieee.{Float, binary32, ofBits}
 use Rattle.drawing.specs.declared.Paint as PaintEnum
@@ -14,18 +14,37 @@ use Rattle.drawing.specs.declared.Which.{Which}
 use Rattle.drawing.specs.declared.Which.the-variants.{Line, Fill, Text}
 use Rattle.drawing.specs.declared.Span.{Span}
 use Rattle.drawing.specs.declared.TextAnswer.{TextAnswer}
-use Rattle.format.specs.Layout.{field, _&_}
-use Rattle.drawing.specs.Fields.{byteIn, fontSize}
-use Rattle.drawing.specs.String.{String, string}
+use Rattle.drawing.specs.declared.Answer.{Answer}
+use Rattle.drawing.specs.String.{String}
 use Rattle.drawing.specs.Choices.{ifFlag}
 use Rattle.drawing.specs.Paint as P
 use Rattle.drawing.specs.Text as T
-use Rattle.drawing.specs.Object.{Object}
-use Rattle.drawing.specs.ObjectLayout.{pathOf, textOf}
+use Rattle.drawing.specs.Object.{Object, Leaf}
+use Rattle.drawing.specs.ObjectId.{leafOf, pathOf, textOf}
 use Rattle.drawing.specs.Drawing.{Drawing}
-use Rattle.drawing.specs.Table.{wordsOf, contentsOf}
+use Rattle.drawing.specs.Table.{wordsOf, startIn}
 use Rattle.drawing.specs.TableDrawing.{drawingOfTable}
 use Rattle.drawing.specs.Order.{objectsOf}
+use Rattle.drawing.specs.Answers.{answer}
+
+-- ---- asking about a part of a row's object
+
+-- A part, or the refusal's number: 16 for a bad table, 6 for a row out of range, 7 for an object with no such part.
+pub data Found (A : Type 0) : Type 0 where
+  part : A → Found A
+  refusal : ℕ → Found A
+
+abbrev pub orRefusal : {A : Type 0} → ℕ → Option A → Found A
+orRefusal n none = refusal n
+orRefusal n (some a) = part a
+
+abbrev pub partAt : {A : Type 0} → (Object → Option A) → Option Object → Found A
+partAt has none = refusal 6
+partAt has (some o) = orRefusal 7 (has o)
+
+abbrev pub partIn : {A : Type 0} → (Drawing → Object → Option A) → Option Drawing → ℕ → Found A
+partIn has none row = refusal 16
+partIn has (some d) row = partAt (has d) (getElem? (objectsOf d) row)
 
 -- ---- the paint question
 
@@ -41,38 +60,44 @@ plainValue (P.cmyk c m y k a) = PaintCase.Cmyk (float c) (float m) (float y) (fl
 plainValue (P.grey g a) = PaintCase.Grey (float g) (float a)
 plainValue (P.hsb h s b a) = PaintCase.Hsb (float h) (float s) (float b) (float a)
 
-abbrev pub paintValue : P.Paint → PaintAnswer
-paintValue (P.plain p) = Plain (plainValue p)
-paintValue (P.linear f t d) = Linear (plainValue f) (plainValue t) d
-paintValue (P.radial f t l) = Radial (plainValue f) (plainValue t) l
+abbrev pub paintValue : Found P.Paint → PaintAnswer
+paintValue (refusal n) = Refused n
+paintValue (part (P.plain p)) = Plain (plainValue p)
+paintValue (part (P.linear f t d)) = Linear (plainValue f) (plainValue t) d
+paintValue (part (P.radial f t l)) = Radial (plainValue f) (plainValue t) l
 
--- 01's number for each case of the answer.
-abbrev pub paintNumber : PaintAnswer → ℕ
-paintNumber (Refused n) = n
-paintNumber (Plain p) = 0
-paintNumber (Linear f t d) = 0
-paintNumber (Radial f t l) = 0
+-- What each case of the public answer says: 01's answer, whose offset and counts are 0, the form (0 plain, 1 linear, 2 radial), the one or two
+-- plain paints, and a gradient's integer. With a refusal the paint is transparent.
+pub record PaintGiven : Type 0 where
+  pub answer : Answer
+  pub form : ℕ
+  pub first : PaintEnum.Paint
+  pub second : PaintEnum.Paint
+  pub place : ℕ
+
+abbrev pub paintGiven : PaintAnswer → PaintGiven
+paintGiven (Refused n) =
+    record { answer = answer n 0 0 0; form = 0; first = PaintCase.Transparent; second = PaintCase.Transparent; place = 0 }
+paintGiven (Plain p) = record { answer = answer 0 0 0 0; form = 0; first = p; second = PaintCase.Transparent; place = 0 }
+paintGiven (Linear f t d) = record { answer = answer 0 0 0 0; form = 1; first = f; second = t; place = d }
+paintGiven (Radial f t l) = record { answer = answer 0 0 0 0; form = 2; first = f; second = t; place = l }
+
+-- A part that leaves of one kind have.
+abbrev pub ofLeaf : {A : Type 0} → (Leaf → Option A) → Option (Leaf × String) → Option A
+ofLeaf has none = none
+ofLeaf has (some t) = has (t .0)
+
+abbrev pub leafPart : {A : Type 0} → (Leaf → Option A) → Object → Option A
+leafPart has o = ofLeaf has (leafOf o)
 
 -- The paint of this part, where an object has the part.
 abbrev pub paintPart : Which → Object → Option P.Paint
-paintPart Line o = Option·map (λ t. t .0 .linePaint) (pathOf o)
-paintPart Fill o = Option·map (λ t. t .0 .fillPaint) (pathOf o)
-paintPart Text o = Option·map (λ t. t .0 .paint) (textOf o)
-
-abbrev pub paintFrom : Option P.Paint → PaintAnswer
-paintFrom none = Refused 7
-paintFrom (some p) = paintValue p
-
-abbrev pub paintAt : Option Object → Which → PaintAnswer
-paintAt none which = Refused 6
-paintAt (some o) which = paintFrom (paintPart which o)
-
-abbrev pub paintOf : Option Drawing → ℕ → Which → PaintAnswer
-paintOf none row which = Refused 16
-paintOf (some d) row which = paintAt (getElem? (objectsOf d) row) which
+paintPart Line o = Option·map (λ p. p .linePaint) (leafPart pathOf o)
+paintPart Fill o = Option·map (λ p. p .fillPaint) (leafPart pathOf o)
+paintPart Text o = Option·map (λ t. t .paint) (leafPart textOf o)
 
 abbrev pub paintAnswer : (contents bodies : List ℕ) → ℕ → Which → PaintAnswer
-paintAnswer contents bodies row which = paintOf (drawingOfTable contents bodies) row which
+paintAnswer contents bodies row which = paintValue (partIn (λ d o. paintPart which o) (drawingOfTable contents bodies) row)
 
 -- ---- the text question
 
@@ -82,56 +107,32 @@ span start chars = record { start = start; length = length chars }
 abbrev pub noSpan : Span
 noSpan = span 0 []
 
-abbrev pub textRefused : ℕ → TextAnswer
-textRefused n = record { number = n; alternative = noSpan; text = noSpan }
-
--- The words of a text's fields before its LaTeX flag.
-abbrev pub beforeLatex : T.Text → List ℕ
-beforeLatex t =
-    wordsOf
-    (string 0 & field (byteIn 0 1) & field (byteIn 0 1) & field fontSize & T.transformation)
-    (t .family, (t .shape, (t .series, (t .size, t .transformation))))
-
--- The words of the LaTeX fields before the alternative.
-abbrev pub beforeAlternative : T.Latex → List ℕ
-beforeAlternative l =
-    wordsOf
-    (string 0 & string 0 & string 0 & string 0 & field (byteIn 0 2) & field (byteIn 0 3))
-    (l .family, (l .series, (l .shape, (l .size, (l .horizontal, l .vertical)))))
-
--- Where the alternative's chars stand in a body that begins here: behind the flag, the other LaTeX fields and its length.
+-- The alternative's chars, which end the LaTeX fields of a text whose body begins here.
 abbrev pub alternativeSpan : ℕ → T.Text → Option T.Latex → Span
 alternativeSpan start t none = noSpan
 alternativeSpan start t (some l) =
-    span (start + length (beforeLatex t) + 1 + length (beforeAlternative l) + 1) (l .alternative)
-
--- Where the text's chars stand: behind the LaTeX fields, the paint and its length.
-abbrev pub textSpan : ℕ → ℕ → T.Text → Span
-textSpan v start t =
     span
-    (start + length (beforeLatex t) + length (wordsOf (ifFlag T.latex) (t .latex)) + length (wordsOf (P.paint v) (t .paint)) + 1)
-    (t .text)
+    (start + length (wordsOf T.font (T.fontOf t)) + (length (wordsOf (ifFlag T.latex) (some l)) - length (l .alternative)))
+    (l .alternative)
 
--- A text that is to be found in a body of this version that begins here.
-abbrev pub textIn : (v start : ℕ) → Option (T.Text × String) → TextAnswer
-textIn v start none = textRefused 7
-textIn v start (some t) =
-    record { number = 0; alternative = alternativeSpan start (t .0) (t .0 .latex); text = textSpan v start (t .0) }
+-- The text's chars, which end its fields.
+abbrev pub textSpan : ℕ → ℕ → T.Text → Span
+textSpan v start t = span (start + (length (wordsOf (T.text v) t) - length (t .text))) (t .text)
 
-abbrev pub textAt : (v start : ℕ) → Option Object → TextAnswer
-textAt v start none = textRefused 6
-textAt v start (some o) = textIn v start (textOf o)
+-- The answer for a text in a drawing of this version, with a body that begins here. With a refusal the places are 0.
+abbrev pub textValue : (start : ℕ) → Found (ℕ × T.Text) → TextAnswer
+textValue start (refusal n) = record { number = n; alternative = noSpan; text = noSpan }
+textValue start (part t) =
+    record { number = 0; alternative = alternativeSpan start (t .1) (t .1 .latex); text = textSpan (t .0) start (t .1) }
 
--- A row's body begins where the third word of the row says.
-abbrev pub textFrom : Option Drawing → ℕ → TextAnswer
-textFrom none row = textRefused 16
-textFrom (some d) row = textAt (d .version) (getD (contentsOf d) (4 * row + 2) 0) (getElem? (objectsOf d) row)
-
+-- A body begins where its row says.
 abbrev pub textAnswer : (contents bodies : List ℕ) → ℕ → TextAnswer
-textAnswer contents bodies row = textFrom (drawingOfTable contents bodies) row
+textAnswer contents bodies row =
+    textValue (startIn contents row)
+    (partIn (λ d o. Option·map (λ t. (d .version, t)) (leafPart textOf o)) (drawingOfTable contents bodies) row)
 
 -- ---- the text to show
 
--- The alternative if it has a char, otherwise the plain text.
+-- The alternative if it has a char, otherwise the plain text. A is the type of the lent runs themselves: what is shown is that very run.
 abbrev pub shown : {A : Type 0} → ℕ → (alternative plain : A) → A
 shown alternativeLength alternative plain = cond (ltb 0 alternativeLength) alternative plain

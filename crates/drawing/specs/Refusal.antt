@@ -6,7 +6,8 @@ use mathlib.Core.List.{List, _++_}
 use lib.ListN.{length}
 use Rattle.format.specs.Kind.{Kind, Field}
 use Rattle.format.specs.Codec.{spellAll}
-use Rattle.format.specs.FixedCodec.{byteFields, spellFixed, Cut, Faulty}
+use Rattle.format.specs.FixedCodec.{spellFixed, Cut, Faulty}
+use Rattle.drawing.specs.Codecs.{byteFields}
 use Rattle.format.specs.Script.{Script, end, Asks}
 use Rattle.format.specs.Format.{script}
 use Rattle.drawing.specs.Limits.{lengthLimit}

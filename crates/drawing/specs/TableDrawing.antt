@@ -2,24 +2,23 @@
 -- TableLaws says which drawing this is: the one good drawing with these contents and bodies, where there is one.
 use mathlib.Core.Bool.{Bool, true, false, cond, _&&_}
 use mathlib.Core.Option.{Option, none, some}
+use Prim.Native.Char.{code}
 use Prim.Native.Nat.{ℕ, zero, suc, _+_, _-_}
 use mathlib.Core.List.{List, [], _∷_}
 use lib.ListN.{length, getD}
 use lib.Dec.{eqb, leb}
 use Rattle.format.specs.Codec.{Outcome, found, refused}
-use Rattle.format.specs.FixedCodec.{cut, words}
-use Rattle.format.specs.Layout.{Layout, field, parse, _&_, _▸_}
+use Rattle.format.specs.FixedCodec.{splitAt}
+use Rattle.drawing.specs.Codecs as Codecs
+use Rattle.format.specs.Layout.{Layout, field, parse, _▸_}
 use Rattle.drawing.specs.Limits.{lastMinor, lengthLimit, depthLimit}
 use Rattle.drawing.specs.Fields.{integerIn}
 use Rattle.drawing.specs.String.{String}
-use Rattle.drawing.specs.Path.{path as pathSpecs}
-use Rattle.drawing.specs.Text.{text as textSpecs}
-use Rattle.drawing.specs.Bitmap.{bitmap as bitmapSpecs}
 use Rattle.drawing.specs.Settings.{Settings, settings}
-use Rattle.drawing.specs.Object.{path, text, bitmap, Object, leaf, group, Objects, ofList}
-use Rattle.drawing.specs.ObjectLayout.{tail}
+use Rattle.drawing.specs.Object.{Object, leaf, group, Objects, ofList}
+use Rattle.drawing.specs.LeafLayout.{leafBody}
 use Rattle.drawing.specs.Drawing.{Drawing, fileOf}
-use Rattle.drawing.specs.Table.{groupKind, groupOwn}
+use Rattle.drawing.specs.Table.{groupKind, groupOwn, row, rowWidth, kindIn, startIn}
 
 -- Where a walk stands: the next row's number and the contents from there on, the next word's and the bodies from there on.
 pub record Place : Type 0 where
@@ -40,11 +39,11 @@ abbrev pub provided : {A : Type 0} → Bool → Walk A → Walk A
 provided true w = w
 provided false w = lost
 
-abbrev pub same : List ℕ → List ℕ → Bool
-same [] [] = true
-same [] (y ∷ ys) = false
-same (x ∷ xs) [] = false
-same (x ∷ xs) (y ∷ ys) = eqb x y && same xs ys
+abbrev pub equal : List ℕ → List ℕ → Bool
+equal [] [] = true
+equal [] (y ∷ ys) = false
+equal (x ∷ xs) [] = false
+equal (x ∷ xs) (y ∷ ys) = eqb x y && equal xs ys
 
 -- The next row's words, with the place behind them.
 abbrev pub rowFrom : Place → Option (List ℕ × List ℕ) → Walk (List ℕ)
@@ -52,60 +51,61 @@ rowFrom p none = lost
 rowFrom p (some parts) = met (parts .0) (record { row = suc (p .row); contents = parts .1; at = p .at; bodies = p .bodies })
 
 abbrev pub nextRow : Place → Walk (List ℕ)
-nextRow p = rowFrom p (cut 4 (p .contents))
+nextRow p = rowFrom p (splitAt rowWidth (p .contents))
 
 -- A body that was parsed, with the row that its object must have.
-abbrev pub bodyFrom : {A : Type 0} → (kind parent : ℕ) (row : List ℕ) → Place → Outcome A → Walk A
-bodyFrom kind parent row p (refused n at) = lost
-bodyFrom kind parent row p (found a rest) =
+abbrev pub bodyFrom : {A : Type 0} → (kind parent : ℕ) (words : List ℕ) → Place → Outcome A → Walk A
+bodyFrom kind parent words p (refused n at) = lost
+bodyFrom kind parent words p (found a rest) =
     let used = length (p .bodies) - length rest in
-    provided (same row (kind ∷ parent ∷ p .at ∷ used ∷ []))
+    provided (equal words (row kind parent (p .at) used))
     (met a (record { row = p .row; contents = p .contents; at = p .at + used; bodies = rest }))
 
-abbrev pub body : {A : Type 0} → Layout A → (kind parent : ℕ) (row : List ℕ) → Place → Walk A
-body L kind parent row p = bodyFrom kind parent row p (parse words L (p .bodies))
-
-abbrev pub leafBody : {A : Type 0} → Layout A → (A → Object) → (kind parent : ℕ) (row : List ℕ) → Place → Walk Object
-leafBody L make kind parent row p = onward (body L kind parent row p) (λ a q. met (make a) q)
+abbrev pub body : {A : Type 0} → Layout A → (kind parent : ℕ) (words : List ℕ) → Place → Walk A
+body L kind parent words p = bodyFrom kind parent words p (parse Codecs.words L (p .bodies))
 
 abbrev pub walkMany : ℕ → (Place → Walk Object) → Place → Walk (List Object)
 walkMany zero each p = met [] p
 walkMany (suc n) each p = onward (each p) (λ o q. onward (walkMany n each q) (λ os r. met (o ∷ os) r))
 
 -- A group whose row was met: its objects stand first, as many as the count in its body, which begins where its row says.
-abbrev pub walkGroup : ℕ → (Place → Walk Object) → (parent : ℕ) (row : List ℕ) → Place → Walk (Objects × String)
-walkGroup v each parent row p =
-    let n = getD (p .bodies) (getD row 2 0 - p .at) 0 in
+abbrev pub walkGroup : ℕ → (Place → Walk Object) → (parent : ℕ) (words : List ℕ) → Place → Walk (Objects × String)
+walkGroup v each parent words p =
+    let n = getD (p .bodies) (startIn words 0 - p .at) 0 in
     onward (walkMany n each p) (λ os q.
-    onward (body (groupOwn v) groupKind parent row q) (λ own r.
+    onward (body (groupOwn v) groupKind parent words q) (λ own r.
     provided (eqb (own .0) n) (met (ofList os, own .1) r)))
 
--- A leaf: a path, a text, or else a bitmap, as its row's kind must then be.
-abbrev pub walkLeaf : (isPath isText : Bool) → ℕ → (parent : ℕ) (row : List ℕ) → Place → Walk Object
-walkLeaf true isText v parent row p = leafBody (pathSpecs v & tail v) (λ (x, d). leaf (path x) d) 2 parent row p
-walkLeaf false true v parent row p = leafBody (textSpecs v & tail v) (λ (x, d). leaf (text x) d) 3 parent row p
-walkLeaf false false v parent row p = leafBody (bitmapSpecs & tail v) (λ (x, d). leaf (bitmap x) d) 4 parent row p
+-- The id char of the leaf with this kind in its row.
+abbrev pub letterOf : ℕ → ℕ
+letterOf kind = cond (eqb kind 2) (code "P") (cond (eqb kind 3) (code "T") (code "I"))
 
-abbrev pub walkKind : (isGroup : Bool) → ℕ → (Place → Walk Object) → (parent : ℕ) (row : List ℕ) → Place → Walk Object
-walkKind true v each parent row p = onward (walkGroup v each parent row p) (λ (os, d) q. met (group os d) q)
-walkKind false v each parent row p = walkLeaf (eqb (getD row 0 0) 2) (eqb (getD row 0 0) 3) v parent row p
+abbrev pub walkLeaf : ℕ → (parent : ℕ) (words : List ℕ) → Place → Walk Object
+walkLeaf v parent words p =
+    let kind = kindIn words 0 in
+    provided (leb 2 kind && leb kind 4)
+    (onward (body (leafBody v (letterOf kind)) kind parent words p) (λ (l, d) q. met (leaf l d) q))
+
+abbrev pub walkKind : (isGroup : Bool) → ℕ → (Place → Walk Object) → (parent : ℕ) (words : List ℕ) → Place → Walk Object
+walkKind true v each parent words p = onward (walkGroup v each parent words p) (λ (os, d) q. met (group os d) q)
+walkKind false v each parent words p = walkLeaf v parent words p
 
 -- An object, in which groups nest at most so deep.
 abbrev pub walkObject : ℕ → ℕ → (parent : ℕ) → Place → Walk Object
-walkObject v zero parent p = onward (nextRow p) (λ row q. walkKind false v (λ r. lost) parent row q)
+walkObject v zero parent p = onward (nextRow p) (λ words q. walkLeaf v parent words q)
 walkObject v (suc deep) parent p =
-    onward (nextRow p) (λ row q. walkKind (eqb (getD row 0 0) groupKind) v (λ r. walkObject v deep (p .row) r) parent row q)
+    onward (nextRow p) (λ words q. walkKind (eqb (kindIn words 0) groupKind) v (λ r. walkObject v deep (p .row) r) parent words q)
 
 abbrev pub tableHead : Layout (ℕ × Settings)
 tableHead = field (integerIn 0 lastMinor) ▸ settings
 
 -- The outer group, behind the head.
 abbrev pub walkOuter : ℕ → Place → Walk (Objects × String)
-walkOuter v p = onward (nextRow p) (λ row q. walkGroup v (λ r. walkObject v (depthLimit - 1) (p .row) r) 0 row q)
+walkOuter v p = onward (nextRow p) (λ words q. walkGroup v (λ r. walkObject v (depthLimit - 1) (p .row) r) 0 words q)
 
 -- The table was walked to its end, and the drawing's file is not too long.
 abbrev pub ended : Drawing → Place → Bool
-ended d p = same (p .contents) [] && same (p .bodies) [] && leb (length (fileOf d)) lengthLimit
+ended d p = equal (p .contents) [] && equal (p .bodies) [] && leb (length (fileOf d)) lengthLimit
 
 abbrev pub wholeTable : ℕ → Settings → Walk (Objects × String) → Option Drawing
 wholeTable v s lost = none
@@ -120,4 +120,4 @@ behindHead contents total (found h rest) =
     (walkOuter (h .0) (record { row = 0; contents = contents; at = total - length rest; bodies = rest }))
 
 abbrev pub drawingOfTable : List ℕ → List ℕ → Option Drawing
-drawingOfTable contents bodies = behindHead contents (length bodies) (parse words tableHead bodies)
+drawingOfTable contents bodies = behindHead contents (length bodies) (parse Codecs.words tableHead bodies)

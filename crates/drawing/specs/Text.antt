@@ -42,11 +42,18 @@ latex =
     (λ l. (l .family, (l .series, (l .shape, (l .size, (l .horizontal, (l .vertical, l .alternative)))))))
     (λ t good. refl)
 
+-- The fields before the LaTeX flag: family, shape, series, size and transformation.
+abbrev pub font : Layout (String × (ℕ × (ℕ × (ℕ × List ℕ))))
+font = string 0 & field (byteIn 0 1) & field (byteIn 0 1) & field fontSize & transformation
+
+abbrev pub fontOf : Text → String × (ℕ × (ℕ × (ℕ × List ℕ)))
+fontOf t = (t .family, (t .shape, (t .series, (t .size, t .transformation))))
+
 abbrev pub text : ℕ → Layout Text
 text v =
     renamed
-    (string 0 & field (byteIn 0 1) & field (byteIn 0 1) & field fontSize & transformation & ifFlag latex & paint v & string 1)
-    (λ (family, (shape, (series, (size, (transformation, (latex, (paint, text))))))).
+    (font & ifFlag latex & paint v & string 1)
+    (λ ((family, (shape, (series, (size, transformation)))), (latex, (paint, text))).
     record { family = family; shape = shape; series = series; size = size; transformation = transformation; latex = latex; paint = paint; text = text })
-    (λ x. (x .family, (x .shape, (x .series, (x .size, (x .transformation, (x .latex, (x .paint, x .text))))))))
+    (λ t. (fontOf t, (t .latex, (t .paint, t .text))))
     (λ t good. refl)

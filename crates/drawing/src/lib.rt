@@ -42,13 +42,13 @@ pub enum PaintAnswer {
     Refused(u32),
     Plain(Paint),
     Linear {
-        from: Paint,
-        to: Paint,
+        start: Paint,
+        end: Paint,
         direction: u32,
     },
     Radial {
-        from: Paint,
-        to: Paint,
+        start: Paint,
+        end: Paint,
         location: u32,
     },
 }

@@ -7,23 +7,23 @@ use mathlib.Core.List.{List, [], _∷_}
 use lib.Dec.{eqb}
 use Rattle.format.specs.Layout.{Layout, either}
 
--- The values of one case of a type, which a letter tells. An alternative that is off is not allowed here.
-pub record Alternative (B : Type 0) (letterOf : B → ℕ) : Type 1 where
-  pub letter : ℕ
+-- The values of one case of a type, which a tag tells. An alternative that is off is not allowed here.
+pub record Alternative (B : Type 0) (tagOf : B → ℕ) : Type 1 where
+  pub tag : ℕ
   pub on : Bool
   pub layout : Layout B
-  pub tells : (b : B) → layout .Good b → letterOf b ≡ letter
+  pub tells : (b : B) → layout .Good b → tagOf b ≡ tag
 
-module _ {B : Type 0} {letterOf : B → ℕ} where
-  -- The letter is that of an alternative that is on; the first one always is.
-  abbrev pub among : Alternative B letterOf → List (Alternative B letterOf) → ℕ → Bool
-  among first [] c = eqb c (first .letter)
-  among first (x ∷ xs) c = x .on && eqb c (x .letter) || among first xs c
+module _ {B : Type 0} {tagOf : B → ℕ} where
+  -- The tag is that of an alternative that is on.
+  abbrev pub among : Alternative B tagOf → List (Alternative B tagOf) → ℕ → Bool
+  among first [] c = first .on && eqb c (first .tag)
+  among first (x ∷ xs) c = x .on && eqb c (x .tag) || among first xs c
 
-  -- The layout that the letter tells.
-  abbrev pub told : Alternative B letterOf → List (Alternative B letterOf) → ℕ → Layout B
+  -- The layout that the tag tells.
+  abbrev pub told : Alternative B tagOf → List (Alternative B tagOf) → ℕ → Layout B
   told first [] c = first .layout
-  told first (x ∷ xs) c = either (x .on && eqb c (x .letter)) (x .layout) (told first xs c)
+  told first (x ∷ xs) c = either (x .on && eqb c (x .tag)) (x .layout) (told first xs c)
 
 -- The value of the flag that tells whether a part is there.
 abbrev pub flagFor : {A : Type 0} → ℕ → ℕ → Option A → ℕ

@@ -1,4 +1,4 @@
--- A good value tells the letter, or the flag, that led to its layout.
+-- A good value tells the tag, or the flag, that led to its layout.
 use mathlib.Core.Path.{_≡_, refl, sym, ap, _∙_}
 use mathlib.Core.Bool.{Bool, true, false, _&&_, _||_, cond}
 use mathlib.Core.Option.{Option, none, some}
@@ -13,16 +13,16 @@ and-right : (a b : Bool) → (a && b) ≡ true → b ≡ true
 and-right true b e = e
 and-right false b e = let z : _≡_ {A = Bool} false true = e in cc
 
-module _ {B : Type 0} {letterOf : B → ℕ} where
-  pub told-tells : (first : Alternative B letterOf) (rest : List (Alternative B letterOf)) (c : ℕ) (b : B)
-      → among first rest c ≡ true → told first rest c .Good b → letterOf b ≡ c
-  told-tells first [] c b h g = first .tells b g ∙ sym (eqb-true c (first .letter) h)
-  told-tells first (x ∷ xs) c b h g = by (x .on && eqb c (x .letter)) refl h g (λ h′ g′. told-tells first xs c b h′ g′)
+module _ {B : Type 0} {tagOf : B → ℕ} where
+  pub told-tells : (first : Alternative B tagOf) (rest : List (Alternative B tagOf)) (c : ℕ) (b : B)
+      → among first rest c ≡ true → told first rest c .Good b → tagOf b ≡ c
+  told-tells first [] c b h g = first .tells b g ∙ sym (eqb-true c (first .tag) (and-right (first .on) (eqb c (first .tag)) h))
+  told-tells first (x ∷ xs) c b h g = by (x .on && eqb c (x .tag)) refl h g (λ h′ g′. told-tells first xs c b h′ g′)
     where
-      by : (t : Bool) → (x .on && eqb c (x .letter)) ≡ t → (t || among first xs c) ≡ true
+      by : (t : Bool) → (x .on && eqb c (x .tag)) ≡ t → (t || among first xs c) ≡ true
           → cond t (x .layout .Good b) (told first xs c .Good b)
-          → (among first xs c ≡ true → told first xs c .Good b → letterOf b ≡ c) → letterOf b ≡ c
-      by true e h g more = x .tells b g ∙ sym (eqb-true c (x .letter) (and-right (x .on) (eqb c (x .letter)) e))
+          → (among first xs c ≡ true → told first xs c .Good b → tagOf b ≡ c) → tagOf b ≡ c
+      by true e h g more = x .tells b g ∙ sym (eqb-true c (x .tag) (and-right (x .on) (eqb c (x .tag)) e))
       by false e h g more = more h g
 
 -- A part that stands where the flag has one value, and is absent where it has the other.
@@ -32,8 +32,8 @@ flag-tells P present absent v none true e other g = absurd g
 flag-tells P present absent v (some a) true e other g = sym (eqb-true v present e)
 flag-tells P present absent v o false e other g = rw g (sym (other e))
 
--- A value of a case has the letter of all that the case makes.
-pub case-tells : {A B : Type 0} (P : A → Type 0) (letterOf : B → ℕ) (letter : ℕ) (make : A → B) → ((a : A) → P a → letterOf (make a) ≡ letter)
-    → (b : B) (o : Option A) → Made P make b o → letterOf b ≡ letter
-case-tells P letterOf letter make same b none g = absurd g
-case-tells P letterOf letter make same b (some a) g = ap letterOf (sym (g .0)) ∙ same a (g .1)
+-- A value of a case has the tag of all that the case makes.
+pub case-tells : {A B : Type 0} (P : A → Type 0) (tagOf : B → ℕ) (tag : ℕ) (make : A → B) → ((a : A) → P a → tagOf (make a) ≡ tag)
+    → (b : B) (o : Option A) → Made P make b o → tagOf b ≡ tag
+case-tells P tagOf tag make same b none g = absurd g
+case-tells P tagOf tag make same b (some a) g = ap tagOf (sym (g .0)) ∙ same a (g .1)

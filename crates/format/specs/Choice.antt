@@ -1,4 +1,4 @@
--- Layouts of choices: one of several, told by a letter, and a part that a flag tells to be there or not.
+-- Layouts of choices: one of several, told by a tag, and a part that a flag tells to be there or not.
 use mathlib.Core.Path.{_≡_, refl, _∙_}
 use mathlib.Core.Bool.{Bool, true, false}
 use mathlib.Core.Option.{Option, none, some}
@@ -10,33 +10,33 @@ use Rattle.format.specs.Layout.{Layout, field, nothing, either, case, im
 use Rattle.format.specs.Alternative.{Alternative, among, told, flagFor}
 use Rattle.format.specs.AlternativeLaws.{told-tells, flag-tells, case-tells}
 
--- An alternative: a letter, whether it is on, its layout, and how a value of the case is made of it and taken apart.
-abbrev pub alternative : {A B : Type 0} {letterOf : B → ℕ} (letter : ℕ) (on : Bool) (f : Layout A) (make : A → B) (apart : B → Option A)
-    → ((a : A) → apart (make a) ≡ some a) → ((a : A) → letterOf (make a) ≡ letter) → Alternative B letterOf
-alternative {letterOf = letterOf} letter on f make apart same tells =
+-- An alternative: a tag, whether it is on, its layout, and how a value of the case is made of it and taken apart.
+abbrev pub alternative : {A B : Type 0} {tagOf : B → ℕ} (tag : ℕ) (on : Bool) (f : Layout A) (make : A → B) (apart : B → Option A)
+    → ((a : A) → apart (make a) ≡ some a) → ((a : A) → tagOf (make a) ≡ tag) → Alternative B tagOf
+alternative {tagOf = tagOf} tag on f make apart same tells =
     record {
-      letter = letter;
+      tag = tag;
       on = on;
       layout = case f make apart (λ a good. same a);
-      tells = λ b good. case-tells (f .Good) letterOf letter make (λ a g. tells a) b (apart b) good;
+      tells = λ b good. case-tells (f .Good) tagOf tag make (λ a g. tells a) b (apart b) good;
     }
 
 -- An alternative for the values of one type, as one for those of a type that has them as a case.
 abbrev pub within : {A B : Type 0} {inner : A → ℕ} {outer : B → ℕ} (make : A → B) (apart : B → Option A)
     → ((a : A) → apart (make a) ≡ some a) → ((a : A) → outer (make a) ≡ inner a) → Alternative A inner → Alternative B outer
-within {outer = outer} make apart same letters x =
+within {outer = outer} make apart same tags x =
     record {
-      letter = x .letter;
+      tag = x .tag;
       on = x .on;
       layout = case (x .layout) make apart (λ a good. same a);
-      tells = λ b good. case-tells (x .layout .Good) outer (x .letter) make (λ a g. letters a ∙ x .tells a g) b (apart b) good;
+      tells = λ b good. case-tells (x .layout .Good) outer (x .tag) make (λ a g. tags a ∙ x .tells a g) b (apart b) good;
     }
 
 -- A field of this kind, whose value tells which alternative follows.
-abbrev pub oneOf : {B : Type 0} {letterOf : B → ℕ} (k : Kind) (first : Alternative B letterOf) (rest : List (Alternative B letterOf))
+abbrev pub oneOf : {B : Type 0} {tagOf : B → ℕ} (k : Kind) (first : Alternative B tagOf) (rest : List (Alternative B tagOf))
     → ((c : ℕ) → Allowed k c → among first rest c ≡ true) → Layout B
-oneOf {letterOf = letterOf} k first rest listed =
-    implied (field k) (told first rest) letterOf (λ c b allowed good. told-tells first rest c b (listed c allowed) good)
+oneOf {tagOf = tagOf} k first rest listed =
+    implied (field k) (told first rest) tagOf (λ c b allowed good. told-tells first rest c b (listed c allowed) good)
 
 -- A flag of this kind, which allows two values, and a part where it has the first of them.
 abbrev pub optional : {A : Type 0} (k : Kind) (present absent : ℕ) → ((v : ℕ) → Allowed k v → eqb v present ≡ false → v ≡ absent) → Layout A → Layout (Option A)

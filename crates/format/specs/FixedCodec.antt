@@ -1,15 +1,14 @@
 -- Codecs of fixed width: a field is a run of digits in some base, as many as its shape has, the highest first.
--- A file's bytes and a table's words are two of them.
 use mathlib.Core.Path.{_≡_}
 use mathlib.Core.Logic.{_⊎_}
 use mathlib.Core.Bool.{cond}
 use mathlib.Core.Option.{Option, none, some, Option·map}
-use Prim.Native.Nat.{ℕ, zero, suc, _<_, _^_, _+_, _/_}
+use Prim.Native.Nat.{ℕ, zero, suc, _<_}
 use mathlib.Core.List.{List, [], _∷_, _++_}
 use lib.ListN.{length}
 use lib.Dec.{ltb}
 use Rattle.format.specs.Digits.{Below, number, digits}
-use Rattle.format.specs.Kind.{Shape, size, Kind}
+use Rattle.format.specs.Kind.{Shape, values, Kind}
 use Rattle.format.specs.Codec.{Codec, Spelling, Outcome, found, refused}
 
 pub record Fixed : Type 0 where
@@ -18,14 +17,15 @@ pub record Fixed : Type 0 where
   pub width : Shape → ℕ
   -- the value that a number stands for in a field of this shape, `none` where it stands for none
   pub meaning : Shape → ℕ → Option ℕ
-  -- the refusal's number for a number that stands for no value
+  -- the refusals' numbers for a field that is cut, and for a number that stands for no value
+  pub missing : ℕ
   pub meaningless : ℕ
 
 -- The first n units and those behind them, `none` where there are fewer.
-abbrev pub cut : ℕ → List ℕ → Option (List ℕ × List ℕ)
-cut zero us = some ([], us)
-cut (suc n) [] = none
-cut (suc n) (u ∷ us) = Option·map (λ parts. (u ∷ parts .0, parts .1)) (cut n us)
+abbrev pub splitAt : ℕ → List ℕ → Option (List ℕ × List ℕ)
+splitAt zero us = some ([], us)
+splitAt (suc n) [] = none
+splitAt (suc n) (u ∷ us) = Option·map (λ parts. (u ∷ parts .0, parts .1)) (splitAt n us)
 
 -- What the digits of a field come to: a value, or the number of a refusal.
 pub data Verdict : Type 0 where
@@ -48,7 +48,7 @@ conclude (value v) us rest = found v rest
 conclude (fault n) us rest = refused n us
 
 abbrev pub readCut : Fixed → Kind → List ℕ → Option (List ℕ × List ℕ) → Outcome ℕ
-readCut F k us none = refused 2 us
+readCut F k us none = refused (F .missing) us
 readCut F k us (some parts) = conclude (judge F k (parts .0)) us (parts .1)
 
 pub record SpellsFixed (F : Fixed) (k : Kind) (v : ℕ) (us : List ℕ) : Type 0 where
@@ -67,7 +67,7 @@ pub record Faulty (F : Fixed) (k : Kind) (us : List ℕ) (n : ℕ) : Type 0 wher
 -- A field that is cut: fewer units are left than it has digits.
 pub record Cut (F : Fixed) (k : Kind) (us : List ℕ) (n : ℕ) : Type 0 where
   pub short : length us < F .width (k .shape)
-  pub number : n ≡ 2
+  pub number : n ≡ F .missing
 
 abbrev pub fixed : Fixed → Codec
 fixed F =
@@ -75,29 +75,19 @@ fixed F =
       Units = Below (F .base);
       Spells = λ k v us rest. SpellsFixed F k v us;
       Stops = λ k us n at. (at ≡ us) × (Cut F k us n ⊎ Faulty F k us n);
-      read = λ k us. readCut F k us (cut (F .width (k .shape)) us);
+      read = λ k us. readCut F k us (splitAt (F .width (k .shape)) us);
     }
 
 abbrev pub spellFixed : Fixed → Spelling
 spellFixed F k v = digits (F .base) (F .width (k .shape)) v
 
--- A file: every field its bytes.
-abbrev pub byteFields : Fixed
-byteFields = record { base = 256; width = size; meaning = λ s v. some v; meaningless = 2 }
-
-abbrev pub bytes : Codec
-bytes = fixed byteFields
-
--- A table: as many 32-bit words as hold the field's bytes, so one for a field of up to four bytes and two for a double.
--- A word that the field's bytes could not hold stands for nothing.
-abbrev pub wordFields : Fixed
-wordFields =
+-- The codec in which a number stands for itself, where a field of the shape can have that value, and elsewhere for nothing.
+abbrev pub literal : (base : ℕ) → (Shape → ℕ) → (missing meaningless : ℕ) → Fixed
+literal base width missing meaningless =
     record {
-      base = 2 ^ 32;
-      width = λ s. (size s + 3) / 4;
-      meaning = λ s v. cond (ltb v (256 ^ size s)) (some v) none;
-      meaningless = 16;
+      base = base;
+      width = width;
+      meaning = λ s v. cond (ltb v (values s)) (some v) none;
+      missing = missing;
+      meaningless = meaningless;
     }
-
-abbrev pub words : Codec
-words = fixed wordFields

@@ -3,46 +3,45 @@ use mathlib.Core.Path.{_≡_, refl, sym, ap}
 use mathlib.Core.Logic.{_⊎_, inl, inr}
 use mathlib.Core.Bool.{Bool, true, false, cond}
 use mathlib.Core.Option.{Option, none, some, Option·map}
-use Prim.Native.Nat.{ℕ, zero, suc, _<_, _≤_, _^_, _+_, _/_, _*_}
+use Prim.Native.Nat.{ℕ, zero, suc, _<_, _≤_, _^_}
 use mathlib.Core.List.{List, [], _∷_, _++_}
 use lib.ListN.{length}
 use lib.Dec.{ltb}
-use lib.Pow.{pow-add}
 use native.Mathlib.Omega.{arith}
 use native.Mathlib.Nat as Nat
 use borrow.Author.Tests.{lt-ltb, ltb-true}
 use Rattle.format.specs.Digits.{Below, number, digits}
 use Rattle.format.specs.DigitsLaws.{length-digits, below-digits, number-digits, number-below, digits-number}
-use Rattle.format.specs.Kind.{Shape, size, Kind, Field, Allowed}
+use Rattle.format.specs.Kind.{Shape, values, Kind, Field, Allowed}
 use Rattle.format.specs.Codec.{Lawful, Writes, Strict, spellAll, found, refused, Explained}
-use Rattle.format.specs.FixedCodec.{Fixed, fixed, cut, value, fault, judged, verdict, judge, conclude, readCut, SpellsFixed, Faulty, Cut, spellFixed, byteFields, bytes, wordFields, words}
+use Rattle.format.specs.FixedCodec.{Fixed, fixed, splitAt, value, fault, judged, verdict, judge, conclude, readCut, SpellsFixed, Faulty, Cut, spellFixed, literal}
 
--- A run of units that is cut off where it ends.
-pub cut-append : (front rest : List ℕ) (n : ℕ) → length front ≡ n → cut n (front ++ rest) ≡ some (front, rest)
-cut-append [] rest zero e = refl
-cut-append [] rest (suc n) e = let z : _≡_ {A = ℕ} 0 (suc n) = e in absurd (omega arith)
-cut-append (u ∷ front) rest zero e = let z : _≡_ {A = ℕ} (suc (length front)) 0 = e in absurd (omega arith)
-cut-append (u ∷ front) rest (suc n) e =
-    ap (Option·map (λ parts. (u ∷ parts .0, parts .1))) (cut-append front rest n (omega arith))
+-- A run of units that is split off where it ends.
+pub splitAt-append : (front rest : List ℕ) (n : ℕ) → length front ≡ n → splitAt n (front ++ rest) ≡ some (front, rest)
+splitAt-append [] rest zero e = refl
+splitAt-append [] rest (suc n) e = let z : _≡_ {A = ℕ} 0 (suc n) = e in absurd (omega arith)
+splitAt-append (u ∷ front) rest zero e = let z : _≡_ {A = ℕ} (suc (length front)) 0 = e in absurd (omega arith)
+splitAt-append (u ∷ front) rest (suc n) e =
+    ap (Option·map (λ parts. (u ∷ parts .0, parts .1))) (splitAt-append front rest n (omega arith))
 
-pub cut-short : (us : List ℕ) (n : ℕ) → length us < n → cut n us ≡ none
-cut-short us zero h = absurd (omega arith)
-cut-short [] (suc n) h = refl
-cut-short (u ∷ us) (suc n) h = ap (Option·map (λ parts. (u ∷ parts .0, parts .1))) (cut-short us n (omega arith))
+pub splitAt-short : (us : List ℕ) (n : ℕ) → length us < n → splitAt n us ≡ none
+splitAt-short us zero h = absurd (omega arith)
+splitAt-short [] (suc n) h = refl
+splitAt-short (u ∷ us) (suc n) h = ap (Option·map (λ parts. (u ∷ parts .0, parts .1))) (splitAt-short us n (omega arith))
 
 -- What cutting came to says how the units lie.
-abbrev pub CutSays : ℕ → List ℕ → Option (List ℕ × List ℕ) → Type 0
-CutSays n us none = length us < n
-CutSays n us (some parts) = (us ≡ parts .0 ++ parts .1) × (length (parts .0) ≡ n)
+abbrev pub SplitSays : ℕ → List ℕ → Option (List ℕ × List ℕ) → Type 0
+SplitSays n us none = length us < n
+SplitSays n us (some parts) = (us ≡ parts .0 ++ parts .1) × (length (parts .0) ≡ n)
 
-cut-says-more : (n u : ℕ) (us : List ℕ) (o : Option (List ℕ × List ℕ)) → CutSays n us o → CutSays (suc n) (u ∷ us) (Option·map (λ parts. (u ∷ parts .0, parts .1)) o)
-cut-says-more n u us none h = omega arith
-cut-says-more n u us (some parts) h = (ap {B = List ℕ} (λ l. u ∷ l) (h .0), ap suc (h .1))
+splitAt-says-more : (n u : ℕ) (us : List ℕ) (o : Option (List ℕ × List ℕ)) → SplitSays n us o → SplitSays (suc n) (u ∷ us) (Option·map (λ parts. (u ∷ parts .0, parts .1)) o)
+splitAt-says-more n u us none h = omega arith
+splitAt-says-more n u us (some parts) h = (ap {B = List ℕ} (λ l. u ∷ l) (h .0), ap suc (h .1))
 
-pub cut-says : (n : ℕ) (us : List ℕ) → CutSays n us (cut n us)
-cut-says zero us = (refl, refl)
-cut-says (suc n) [] = omega arith
-cut-says (suc n) (u ∷ us) = cut-says-more n u us (cut n us) (cut-says n us)
+pub splitAt-says : (n : ℕ) (us : List ℕ) → SplitSays n us (splitAt n us)
+splitAt-says zero us = (refl, refl)
+splitAt-says (suc n) [] = omega arith
+splitAt-says (suc n) (u ∷ us) = splitAt-says-more n u us (splitAt n us) (splitAt-says n us)
 
 pub below-front : (base : ℕ) (us rest : List ℕ) → Below base (us ++ rest) → Below base us
 below-front base [] rest h = tt
@@ -59,9 +58,9 @@ below-append base (u ∷ us) rest h g = (h .0, below-append base us rest (h .1) 
 -- What is asked of a codec of fixed width: a field's value fits its shape's bytes, and each such value has a spelling.
 pub record Sensible (F : Fixed) : Type 0 where
   pub positive : 0 < F .base
-  pub fits : (s : Shape) (x v : ℕ) → x < F .base ^ F .width s → F .meaning s x ≡ some v → v < 256 ^ size s
-  pub plain : (s : Shape) (v : ℕ) → v < 256 ^ size s → F .meaning s v ≡ some v
-  pub room : (s : Shape) → 256 ^ size s ≤ F .base ^ F .width s
+  pub fits : (s : Shape) (x v : ℕ) → x < F .base ^ F .width s → F .meaning s x ≡ some v → v < values s
+  pub plain : (s : Shape) (v : ℕ) → v < values s → F .meaning s v ≡ some v
+  pub room : (s : Shape) → values s ≤ F .base ^ F .width s
 
 -- A number stands for itself or for nothing.
 abbrev pub Literal : Fixed → Type 0
@@ -71,13 +70,13 @@ module _ (F : Fixed) (S : Sensible F) where
   judge-value : (k : Kind) (v : ℕ) (us : List ℕ) → SpellsFixed F k v us → Allowed k v → judge F k us ≡ value v
   judge-value k v us p a = rw (p .means, a .faultless)
 
-  fixed-reads : (k : Kind) (v : ℕ) (us rest : List ℕ) → SpellsFixed F k v us → Allowed k v → readCut F k (us ++ rest) (cut (F .width (k .shape)) (us ++ rest)) ≡ found v rest
-  fixed-reads k v us rest p a = rw (cut-append us rest (F .width (k .shape)) (p .long), judge-value k v us p a)
+  fixed-reads : (k : Kind) (v : ℕ) (us rest : List ℕ) → SpellsFixed F k v us → Allowed k v → readCut F k (us ++ rest) (splitAt (F .width (k .shape)) (us ++ rest)) ≡ found v rest
+  fixed-reads k v us rest p a = rw (splitAt-append us rest (F .width (k .shape)) (p .long), judge-value k v us p a)
 
-  fixed-stops : (k : Kind) (us : List ℕ) (n : ℕ) → Cut F k us n ⊎ Faulty F k us n → readCut F k us (cut (F .width (k .shape)) us) ≡ refused n us
-  fixed-stops k us n (inl h) = rw (cut-short us (F .width (k .shape)) (h .short), h .number)
+  fixed-stops : (k : Kind) (us : List ℕ) (n : ℕ) → Cut F k us n ⊎ Faulty F k us n → readCut F k us (splitAt (F .width (k .shape)) us) ≡ refused n us
+  fixed-stops k us n (inl h) = rw (splitAt-short us (F .width (k .shape)) (h .short), h .number)
   fixed-stops k us n (inr h) =
-      let c : cut (F .width (k .shape)) us ≡ some (h .front, h .rest) = rw (h .split) (cut-append (h .front) (h .rest) (F .width (k .shape)) (h .long)) in
+      let c : splitAt (F .width (k .shape)) us ≡ some (h .front, h .rest) = rw (h .split) (splitAt-append (h .front) (h .rest) (F .width (k .shape)) (h .long)) in
       rw (c, h .says)
 
   -- What a verdict says of the digits.
@@ -90,14 +89,14 @@ module _ (F : Fixed) (S : Sensible F) where
       below : Below (F .base) front
       below = below-front (F .base) front rest (rw e at b)
 
-      fits : v < 256 ^ size (k .shape)
+      fits : v < values (k .shape)
       fits = S .fits (k .shape) (number (F .base) front) v (rw (← l) (number-below (F .base) front below)) h
 
       judged-so : (f : ℕ) → k .fault v ≡ f → Explained (fixed F) k us (conclude (judged v f) us rest)
       judged-so zero q = (front, e, record { long = l; below = below; means = h }, record { fits = fits; faultless = q })
       judged-so (suc n) q = (refl, inr (record { front = front; rest = rest; split = e; long = l; says = rw (h, q) }))
 
-  explain-cut : (k : Kind) (us : List ℕ) → Below (F .base) us → (o : Option (List ℕ × List ℕ)) → CutSays (F .width (k .shape)) us o → Explained (fixed F) k us (readCut F k us o)
+  explain-cut : (k : Kind) (us : List ℕ) → Below (F .base) us → (o : Option (List ℕ × List ℕ)) → SplitSays (F .width (k .shape)) us o → Explained (fixed F) k us (readCut F k us o)
   explain-cut k us b none h = (refl, inl (record { short = h; number = refl }))
   explain-cut k us b (some parts) h =
       explain-verdict k us (parts .0) (parts .1) b (h .0) (h .1) (F .meaning (k .shape) (number (F .base) (parts .0))) refl
@@ -107,7 +106,7 @@ module _ (F : Fixed) (S : Sensible F) where
       record {
         reads = λ k v us rest p a. fixed-reads k v us rest p a;
         stops = λ k us n at p. rw (p .0) (fixed-stops k us n (p .1));
-        explains = λ k us b. explain-cut k us b (cut (F .width (k .shape)) us) (cut-says (F .width (k .shape)) us);
+        explains = λ k us b. explain-cut k us b (splitAt (F .width (k .shape)) us) (splitAt-says (F .width (k .shape)) us);
         behind = λ us rest b. below-behind (F .base) us rest b;
       }
 
@@ -136,47 +135,28 @@ module _ (F : Fixed) (S : Sensible F) where
       let e : number (F .base) us ≡ v = lit (k .shape) (number (F .base) us) v (p .means) in
       rw (← e, ← (p .long)) (sym (digits-number (F .base) us (S .positive) (p .below)))
 
-pub bytes-sensible : Sensible byteFields
-bytes-sensible =
-    record {
-      positive = omega arith;
-      fits = λ s x v h e. let q : x ≡ v = cc in rw (← q) h;
-      plain = λ s v h. refl;
-      room = λ s. Nat.le-refl (256 ^ size s);
-    }
+-- The test that a number is one of the shape's values.
+literal-says : (s : Shape) (x v : ℕ) (t : Bool) → ltb x (values s) ≡ t → cond t (some x) none ≡ some v → (x ≡ v) × (x < values s)
+literal-says s x v true h e = (cc, ltb-true x (values s) h)
+literal-says s x v false h e = let z : _≡_ {A = ℕ} 0 1 = cc in absurd (omega arith)
 
-pub bytes-literal : Literal byteFields
-bytes-literal s x v e = cc
+module _ (base : ℕ) (width : Shape → ℕ) (missing meaningless : ℕ) where
+  pub literal-literal : Literal (literal base width missing meaningless)
+  literal-literal s x v e = literal-says s x v (ltb x (values s)) refl e .0
 
--- The test that a word is no larger than the field's bytes can hold.
-within : (s : Shape) (x v : ℕ) (t : Bool) → ltb x (256 ^ size s) ≡ t → cond t (some x) none ≡ some v → (x ≡ v) × (x < 256 ^ size s)
-within s x v true h e = (cc, ltb-true x (256 ^ size s) h)
-within s x v false h e = let z : _≡_ {A = ℕ} 0 1 = cc in absurd (omega arith)
-
-pub words-literal : Literal wordFields
-words-literal s x v e = within s x v (ltb x (256 ^ size s)) refl e .0
-
--- Bytes four at a time fill words.
-word-powers : (k : ℕ) → (2 ^ 32) ^ k ≡ 256 ^ (4 * k)
-word-powers zero = refl
-word-powers (suc k) = rw (Nat.pow-succ' (2 ^ 32) k, word-powers k, Nat.mul-suc 4 k, pow-add 256 (4 * k) 4) (Nat.mul-comm (2 ^ 32) (256 ^ (4 * k)))
-
-words-hold : (n : ℕ) → 256 ^ n ≤ (2 ^ 32) ^ ((n + 3) / 4)
-words-hold n = rw (word-powers ((n + 3) / 4)) (Nat.pow-le-pow-right (omega arith) (omega arith))
-
-pub words-sensible : Sensible wordFields
-words-sensible =
-    record {
-      positive = omega arith;
-      fits = λ s x v h e. let w = within s x v (ltb x (256 ^ size s)) refl e in rw (← (w .0)) (w .1);
-      plain = λ s v h. rw (lt-ltb v (256 ^ size s) h);
-      room = λ s. words-hold (size s);
-    }
+  pub literal-sensible : 0 < base → ((s : Shape) → values s ≤ base ^ width s) → Sensible (literal base width missing meaningless)
+  literal-sensible positive room =
+      record {
+        positive = positive;
+        fits = λ s x v h e. let w = literal-says s x v (ltb x (values s)) refl e in rw (← (w .0)) (w .1);
+        plain = λ s v h. rw (lt-ltb v (values s) h);
+        room = room;
+      }
 
 -- A refusal's number is never 0.
-pub fault-positive : (F : Fixed) → 0 < F .meaningless → (k : Kind) (us : List ℕ) (n : ℕ) → Cut F k us n ⊎ Faulty F k us n → 0 < n
-fault-positive F m k us n (inl h) = rw (h .number) (omega arith)
-fault-positive F m k us n (inr h) = judged-positive (F .meaning (k .shape) (number (F .base) (h .front))) (h .says)
+pub fault-positive : (F : Fixed) → 0 < F .missing → 0 < F .meaningless → (k : Kind) (us : List ℕ) (n : ℕ) → Cut F k us n ⊎ Faulty F k us n → 0 < n
+fault-positive F c m k us n (inl h) = rw (h .number) c
+fault-positive F c m k us n (inr h) = judged-positive (F .meaning (k .shape) (number (F .base) (h .front))) (h .says)
   where
     value-positive : (v f : ℕ) → judged v f ≡ fault n → 0 < n
     value-positive v zero e = let z : _≡_ {A = ℕ} 0 1 = cc in absurd (omega arith)

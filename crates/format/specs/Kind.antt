@@ -22,6 +22,18 @@ size stringLength = 4
 size (stringChar last) = 2
 size (chars n) = 2 * n
 
+-- How many values a field of this shape can have: a flag has two, any other as many as its bytes can hold.
+abbrev pub values : Shape → ℕ
+values flag = 2
+values byte = 256 ^ 1
+values char = 256 ^ 2
+values integer = 256 ^ 4
+values float = 256 ^ 4
+values double = 256 ^ 8
+values stringLength = 256 ^ 4
+values (stringChar last) = 256 ^ 2
+values (chars n) = 256 ^ (2 * n)
+
 -- A kind of field: its shape, and for each value the number of the fault that it is here, 0 where it is allowed.
 -- A field's value is the unsigned big-endian number of its bytes.
 pub record Kind : Type 0 where
@@ -29,7 +41,7 @@ pub record Kind : Type 0 where
   pub fault : ℕ → ℕ
 
 pub record Allowed (k : Kind) (v : ℕ) : Type 0 where
-  pub fits : v < 256 ^ size (k .shape)
+  pub fits : v < values (k .shape)
   pub faultless : k .fault v ≡ 0
 
 pub record Field : Type 0 where

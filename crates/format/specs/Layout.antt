@@ -54,18 +54,14 @@ threaded n each next s =
 abbrev pub repeat : {A : Type 0} → ℕ → Layout A → Layout (List A)
 repeat n f = threaded {S = Unit {0}} n (λ s. f) (λ s a. s) tt
 
--- The same fields for values of a type with names for them.
-abbrev pub renamed : {A B : Type 0} (f : Layout A) (make : A → B) (apart : B → A) → ((a : A) → f .Good a → apart (make a) ≡ a) → Layout B
-renamed f make apart same =
-    record {
-      Good = λ b. (make (apart b) ≡ b) × f .Good (apart b);
-      format = via (f .format) make (λ b. some (apart b)) (λ a good. ap {B = Option _} some (same a good));
-    }
-
 -- The same fields for values of one case of a type of several.
 abbrev pub case : {A B : Type 0} (f : Layout A) (make : A → B) (apart : B → Option A) → ((a : A) → f .Good a → apart (make a) ≡ some a) → Layout B
 case f make apart same =
     record { Good = λ b. Made (f .Good) make b (apart b); format = via (f .format) make apart same }
+
+-- The same fields for values of a type with names for them.
+abbrev pub renamed : {A B : Type 0} (f : Layout A) (make : A → B) (apart : B → A) → ((a : A) → f .Good a → apart (make a) ≡ a) → Layout B
+renamed f make apart same = case f make (λ b. some (apart b)) (λ a good. ap {B = Option _} some (same a good))
 
 -- A first part that the rest tells again, so that the value does without it.
 abbrev pub implied : {A B : Type 0} (f : Layout A) (g : A → Layout B) (told : B → A) → ((a : A) (b : B) → f .Good a → g a .Good b → told b ≡ a) → Layout B
@@ -80,5 +76,5 @@ abbrev pub counted : {A : Type 0} → Kind → Layout A → Layout (List A)
 counted k f = implied (field k) (λ n. repeat n f) length (λ n as′ allowed each. each-length (λ s. f .Good) (λ s a. s) n tt as′ each)
 
 -- A field that can have one value only, so that no value is kept of it, in front of a layout.
-abbrev pub mark : {A : Type 0} (k : Kind) (x : ℕ) → ((v : ℕ) → Allowed k v → v ≡ x) → Layout A → Layout A
-mark k x only f = implied (field k) (λ v. f) (λ a. x) (λ v a allowed good. sym (only v allowed))
+abbrev pub constant : {A : Type 0} (k : Kind) (x : ℕ) → ((v : ℕ) → Allowed k v → v ≡ x) → Layout A → Layout A
+constant k x only f = implied (field k) (λ v. f) (λ a. x) (λ v a allowed good. sym (only v allowed))

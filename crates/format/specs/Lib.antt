@@ -17,5 +17,7 @@ pub mod AlternativeLaws
 pub mod Choice
 pub mod LayoutLaws
 pub mod FixedLayoutLaws
+pub mod Translate
+pub mod TranslateLaws
 pub mod LeafLaws
 pub mod SignedExamples

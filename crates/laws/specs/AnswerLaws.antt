@@ -11,22 +11,23 @@ use lib.Dec.{leb}
 use native.Mathlib.Omega.{arith}
 use borrow.Author.Tests.{leb-true, le-leb}
 use Rattle.format.specs.Digits.{Below}
-use Rattle.drawing.specs.Fields.{unless, first}
-use Rattle.drawing.specs.FieldLaws.{unless-zero, first-zero}
-use Rattle.format.specs.FixedCodec.{byteFields}
-use Rattle.format.specs.FixedCodecLaws.{bytes-sensible, below-spelled}
+use Rattle.drawing.specs.Fields.{unless, orElse}
+use Rattle.drawing.specs.FieldLaws.{unless-zero, orElse-zero}
+use Rattle.drawing.specs.Codecs.{byteFields}
+use Rattle.format.specs.FixedCodecLaws.{below-spelled}
+use Rattle.laws.specs.CodecLaws.{bytes-sensible}
 use Rattle.format.specs.Format.{fields}
 use Rattle.drawing.specs.Drawing.{Drawing, outer, file as fileLayout, fileOf, Acceptable, Reading, drawing, refusal, drawingOf}
 use Rattle.laws.specs.DrawingLaws.{drawing-of-bytes, refusal-positive}
-use Rattle.drawing.specs.Table.{rows, headWords, contentsOf, bodiesOf}
+use Rattle.drawing.specs.Table.{IsTable, headWords, contentsOf, bodiesOf}
 use Rattle.drawing.specs.TableDrawing.{drawingOfTable}
-use Rattle.laws.specs.TableLaws.{IsTable, drawing-of-table, table-complete}
+use Rattle.laws.specs.TableLaws.{drawing-of-table, table-complete}
 use Rattle.laws.specs.OrderLaws.{contents-length}
-use Rattle.drawing.specs.Answers.{answer, rowsOf, wordCount, over, ReadResult, roomFault, stored, readFrom, readResult, Output, written, writeFrom, writeOutput}
+use Rattle.drawing.specs.Answers.{answer, rowsOf, wordCount, overwrite, ReadResult, roomFault, stored, readFrom, readResult, Output, written, writeFrom, writeOutput}
 
 -- What stands at the beginning is what was put there.
-pub take-over : (new lent : List ℕ) (n : ℕ) → length new ≡ n → take n (over new lent) ≡ new
-take-over new lent n e = take-at new (drop (length new) lent) n e
+pub take-overwrite : (new buffer : List ℕ) (n : ℕ) → length new ≡ n → take n (overwrite new buffer) ≡ new
+take-overwrite new buffer n e = take-at new (drop (length new) buffer) n e
 
 -- A file was accepted, with a drawing and room for its table.
 pub record Accepted (file contents bodies : List ℕ) : Type 0 where
@@ -40,12 +41,12 @@ room-fits : (d : Drawing) (contents bodies : List ℕ) → roomFault d contents 
 room-fits d contents bodies e =
     let rows-fit = leb (rowsOf d) (length contents / 4) in
     let words-fit = leb (wordCount d) (length bodies) in
-    let z = first-zero (unless rows-fit 14) (unless words-fit 15) e in
+    let z = orElse-zero (unless rows-fit 14) (unless words-fit 15) e in
     (leb-true (rowsOf d) (length contents / 4) (unless-zero rows-fit 14 tt (z .0)), leb-true (wordCount d) (length bodies) (unless-zero words-fit 15 tt (z .1)))
 
 fits-room : (d : Drawing) (contents bodies : List ℕ) → rowsOf d ≤ length contents / 4 → wordCount d ≤ length bodies → roomFault d contents bodies ≡ 0
 fits-room d contents bodies h g =
-    ap₂ (λ s t. first (unless s 14) (unless t 15)) (le-leb (rowsOf d) (length contents / 4) h) (le-leb (wordCount d) (length bodies) g)
+    ap₂ (λ s t. orElse (unless s 14) (unless t 15)) (le-leb (rowsOf d) (length contents / 4) h) (le-leb (wordCount d) (length bodies) g)
 
 stored-zero : (f : ℕ) (d : Drawing) (total : ℕ) (contents bodies : List ℕ) → stored f d total contents bodies .answer .number ≡ 0 → f ≡ 0
 stored-zero zero d total contents bodies e = refl
@@ -54,7 +55,7 @@ stored-zero (suc n) d total contents bodies e = e
 -- An accepted file gives the drawing's table, with all else as before, and the drawing's counts.
 pub read-gives : (file contents bodies : List ℕ) → Below 256 file → (a : Accepted file contents bodies)
     → readResult file contents bodies
-    ≡ record { answer = answer 0 (length file) (rowsOf (a .drawing)) (wordCount (a .drawing)); contents = over (contentsOf (a .drawing)) contents; bodies = over (bodiesOf (a .drawing)) bodies }
+    ≡ record { answer = answer 0 (length file) (rowsOf (a .drawing)) (wordCount (a .drawing)); contents = overwrite (contentsOf (a .drawing)) contents; bodies = overwrite (bodiesOf (a .drawing)) bodies }
 read-gives file contents bodies b a =
     ap (λ r. readFrom r (length file) contents bodies) (drawing-of-bytes file b (a .drawing) .1 (a .acceptable, a .file-is))
     ∙ ap (λ f. stored f (a .drawing) (length file) contents bodies) (fits-room (a .drawing) contents bodies (a .rows-fit) (a .words-fit))
@@ -82,13 +83,13 @@ pub record Writable (contents bodies file : List ℕ) : Type 0 where
   pub fits : length (fileOf drawing) ≤ length file
 
 write-drawing : (contents bodies file : List ℕ) (d : Drawing) → drawingOfTable contents bodies ≡ some d → length (fileOf d) ≤ length file
-    → writeOutput contents bodies file ≡ record { answer = answer 0 (length (fileOf d)) (rowsOf d) (wordCount d); lent = over (fileOf d) file }
+    → writeOutput contents bodies file ≡ record { answer = answer 0 (length (fileOf d)) (rowsOf d) (wordCount d); buffer = overwrite (fileOf d) file }
 write-drawing contents bodies file d e fits =
     ap (λ o. writeFrom o file) e ∙ ap (λ t. written (unless t 17) d file) (le-leb (length (fileOf d)) (length file) fits)
 
 pub write-gives : (contents bodies file : List ℕ) → Below (2 ^ 32) bodies → (w : Writable contents bodies file)
     → writeOutput contents bodies file
-    ≡ record { answer = answer 0 (length (fileOf (w .drawing))) (rowsOf (w .drawing)) (wordCount (w .drawing)); lent = over (fileOf (w .drawing)) file }
+    ≡ record { answer = answer 0 (length (fileOf (w .drawing))) (rowsOf (w .drawing)) (wordCount (w .drawing)); buffer = overwrite (fileOf (w .drawing)) file }
 write-gives contents bodies file b w =
     write-drawing contents bodies file (w .drawing) (drawing-of-table contents bodies b (w .drawing) .1 (w .is-table)) (w .fits)
 
@@ -114,7 +115,7 @@ write-accepts contents bodies file b = (there (drawingOfTable contents bodies) r
 -- What is written of the table that a read gave.
 abbrev WrittenBack : (file out : List ℕ) → ReadResult → Type 0
 WrittenBack file out r =
-    writeOutput (take (4 * r .answer .rows) (r .contents)) (take (r .answer .words) (r .bodies)) out ≡ record { answer = r .answer; lent = over file out }
+    writeOutput (take (4 * r .answer .rows) (r .contents)) (take (r .answer .words) (r .bodies)) out ≡ record { answer = r .answer; buffer = overwrite file out }
 
 -- What a read gives, a write turns back into the same bytes.
 pub read-then-write : (file contents bodies out : List ℕ) → Below 256 file → readResult file contents bodies .answer .number ≡ 0 → length file ≤ length out
@@ -125,15 +126,15 @@ read-then-write file contents bodies out b accepted room =
     let fits : length (fileOf d) ≤ length out = subst (λ l. length l ≤ length out) (a .file-is) room in
     subst (WrittenBack file out) (sym (read-gives file contents bodies b a))
     (ap₂ (λ x y. writeOutput x y out)
-    (take-over (contentsOf d) contents (4 * rowsOf d) (contents-length (outer d) (d .version) 0 0 (length (headWords d))))
-    (take-over (bodiesOf d) bodies (wordCount d) refl)
+    (take-overwrite (contentsOf d) contents (4 * rowsOf d) (contents-length (outer d) (d .version) 0 0 (length (headWords d))))
+    (take-overwrite (bodiesOf d) bodies (wordCount d) refl)
     ∙ write-drawing (contentsOf d) (bodiesOf d) out d (table-complete d (a .acceptable)) fits
-    ∙ ap {B = Output} (λ f. record { answer = answer 0 (length f) (rowsOf d) (wordCount d); lent = over f out }) (sym (a .file-is)))
+    ∙ ap {B = Output} (λ f. record { answer = answer 0 (length f) (rowsOf d) (wordCount d); buffer = overwrite f out }) (sym (a .file-is)))
 
 -- What is read of the bytes that a write gave.
 abbrev ReadBack : (contents bodies c d : List ℕ) → Output → Type 0
 ReadBack contents bodies c d o =
-    readResult (take (o .answer .offset) (o .lent)) c d ≡ record { answer = o .answer; contents = over contents c; bodies = over bodies d }
+    readResult (take (o .answer .offset) (o .buffer)) c d ≡ record { answer = o .answer; contents = overwrite contents c; bodies = overwrite bodies d }
 
 -- What a write gives, a read turns back into the same table.
 pub write-then-read : (contents bodies file c d : List ℕ) → Below (2 ^ 32) bodies → writeOutput contents bodies file .answer .number ≡ 0
@@ -152,7 +153,7 @@ write-then-read contents bodies file c d b accepted rows-fit words-fit =
       words-fit = subst (λ o. o .answer .words ≤ length d) g words-fit;
     } in
     subst (ReadBack contents bodies c d) (sym g)
-    (ap (λ f. readResult f c d) (take-over (fileOf D) file (length (fileOf D)) refl)
+    (ap (λ f. readResult f c d) (take-overwrite (fileOf D) file (length (fileOf D)) refl)
     ∙ read-gives (fileOf D) c d (below-spelled byteFields bytes-sensible (fields (fileLayout .format) D)) a
-    ∙ ap₂ {C = ReadResult} (λ x y. record { answer = answer 0 (length (fileOf D)) (rowsOf D) (wordCount D); contents = over x c; bodies = over y d })
+    ∙ ap₂ {C = ReadResult} (λ x y. record { answer = answer 0 (length (fileOf D)) (rowsOf D) (wordCount D); contents = overwrite x c; bodies = overwrite y d })
     (sym (w .is-table .contents-are)) (sym (w .is-table .bodies-are)))

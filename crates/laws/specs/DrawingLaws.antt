@@ -10,8 +10,10 @@ use native.Mathlib.Omega.{arith}
 use borrow.Author.Tests.{ltb-true, ltb-false, lt-ltb, le-ltb}
 use Rattle.format.specs.Digits.{Below}
 use Rattle.format.specs.Codec.{Outcome, found, refused, spellAll}
-use Rattle.format.specs.FixedCodec.{bytes, byteFields, spellFixed, Cut, Faulty}
-use Rattle.format.specs.FixedCodecLaws.{bytes-sensible, bytes-literal, fault-positive}
+use Rattle.format.specs.FixedCodec.{spellFixed, Cut, Faulty}
+use Rattle.drawing.specs.Codecs.{bytes, byteFields}
+use Rattle.format.specs.FixedCodecLaws.{fault-positive}
+use Rattle.laws.specs.CodecLaws.{bytes-sensible, bytes-literal}
 use Rattle.format.specs.Layout.{parse}
 use Rattle.format.specs.FixedLayoutLaws.{parse-encoded, parse-encoded-alone, parsed-good, encode-unique, refused-stopped}
 use Rattle.drawing.specs.Limits.{lengthLimit}
@@ -129,5 +131,5 @@ refusal-positive bs b n offset e = by (refusal-of-bytes bs b n offset .0 e)
   where
     by : Refused bs n offset → 0 < n
     by (inl h) = rw (h .number-is) (omega arith)
-    by (inr (inl h)) = fault-positive byteFields (omega arith) (h .kind) (h .back) n (h .at-fault)
+    by (inr (inl h)) = fault-positive byteFields (omega arith) (omega arith) (h .kind) (h .back) n (h .at-fault)
     by (inr (inr h)) = rw (h .number-is) (omega arith)

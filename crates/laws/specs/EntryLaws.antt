@@ -13,10 +13,10 @@ use Rattle.drawing.specs.String.{String}
 use Rattle.drawing.specs.Object.{Object}
 use Rattle.drawing.specs.Drawing.{Drawing, outer}
 use Rattle.drawing.specs.Table.{rows}
-use Rattle.drawing.specs.TableDrawing.{same}
+use Rattle.drawing.specs.TableDrawing.{equal}
 use Rattle.drawing.specs.Order.{objectsOf, descriptionOf, entriesFrom, entries}
-use Rattle.laws.specs.SameLaws.{same-iff}
-use Rattle.laws.specs.OrderLaws.{rows-opened, shift}
+use Rattle.laws.specs.EqualLaws.{equal-iff}
+use Rattle.laws.specs.OrderLaws.{rows-preorder, shift}
 
 -- A row that is kept, ahead of the rest, if the test says so.
 module _ (n : ℕ) (rest : List ℕ) where
@@ -39,7 +39,7 @@ module _ (n : ℕ) (rest : List ℕ) where
 module _ (label : String) (z : Object) where
   first-iff : (n : ℕ) (o : Object) (os : List Object) (r : ℕ)
       → List·Memᴰ r (entriesFrom n label (o ∷ os)) ↔ (((descriptionOf o ≡ label) × (r ≡ n)) ⊎ List·Memᴰ r (entriesFrom (suc n) label os))
-  first-iff n o os r = kept-iff n _ r _ (same-iff (descriptionOf o) label)
+  first-iff n o os r = kept-iff n _ r _ (equal-iff (descriptionOf o) label)
 
   -- That a row is that of an object with the label, among objects of which the first has row n.
   record Entry (n : ℕ) (os : List Object) (r : ℕ) : Type 0 where
@@ -64,17 +64,17 @@ module _ (label : String) (z : Object) where
   increasing : (n : ℕ) (os : List Object) → Pairwise _<_ (entriesFrom n label os)
   increasing n [] = Pairwise·nil
   increasing n (o ∷ os) =
-      kept-increasing n _ (same (descriptionOf o) label) (λ r m. let i = entry (suc n) os r m in omega arith) (increasing (suc n) os)
+      kept-increasing n _ (equal (descriptionOf o) label) (λ r m. let i = entry (suc n) os r m in omega arith) (increasing (suc n) os)
 
   length-le : (n : ℕ) (os : List Object) → length (entriesFrom n label os) ≤ length os
   length-le n [] = omega arith
-  length-le n (o ∷ os) = kept-length n _ (same (descriptionOf o) label) (length os) (length-le (suc n) os)
+  length-le n (o ∷ os) = kept-length n _ (equal (descriptionOf o) label) (length os) (length-le (suc n) os)
 
 -- The entries of a label are the rows of the objects with that description.
 pub entries-are : (label : String) (d : Drawing) (r : ℕ)
     → List·Memᴰ r (entries label d) ↔ ((r < rows (outer d)) × (descriptionOf (getD (objectsOf d) r (outer d)) ≡ label))
 entries-are label d r =
-    let l = rows-opened (outer d) in (
+    let l = rows-preorder (outer d) in (
       λ m.
           let i = entry label (outer d) 0 (objectsOf d) r m in
           let s : i .place ≡ r = omega arith in
@@ -87,4 +87,4 @@ pub entries-increasing : (label : String) (d : Drawing) → Pairwise _<_ (entrie
 entries-increasing label d = increasing label (outer d) 0 (objectsOf d)
 
 pub entries-length-le : (label : String) (d : Drawing) → length (entries label d) ≤ rows (outer d)
-entries-length-le label d = rw (← rows-opened (outer d)) (length-le label (outer d) 0 (objectsOf d))
+entries-length-le label d = rw (← rows-preorder (outer d)) (length-le label (outer d) 0 (objectsOf d))

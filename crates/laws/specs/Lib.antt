@@ -1,7 +1,8 @@
 -- The laws of the drawing layer: that the definitions hang together and make the customer's demands.
+pub mod CodecLaws
 pub mod ObjectGood
 pub mod FileGood
-pub mod SameLaws
+pub mod EqualLaws
 pub mod WalkLaws
 pub mod WalkComplete
 pub mod WalkSound

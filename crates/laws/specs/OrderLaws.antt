@@ -8,28 +8,28 @@ use lib.ListN.{length, getD, drop, length-append}
 use lib.Seq.{drop-drop, drop-append-seam, getD-drop}
 use Rattle.drawing.specs.Object.{Object, leaf, group, Objects, none, more}
 use Rattle.drawing.specs.Drawing.{Drawing, outer}
-use Rattle.drawing.specs.Table.{rows, rowsAll, bodies, contents, contentsAll, contentsOf}
-use Rattle.drawing.specs.Order.{opened, openedAll, surroundings, surroundingsAll, groupsAround, parentIn, Met}
+use Rattle.drawing.specs.Table.{rows, rowsAll, bodies, contents, contentsAll, contentsOf, parentIn}
+use Rattle.drawing.specs.Order.{preorder, preorderAll, ancestors, ancestorsAll, groupsAround, ParentChain}
 
 -- ---- counts
 
 mutual
-  pub rows-opened : (o : Object) → length (opened o) ≡ rows o
-  rows-opened (leaf l d) = refl
-  rows-opened (group os d) = ap suc (rows-opened-all os)
+  pub rows-preorder : (o : Object) → length (preorder o) ≡ rows o
+  rows-preorder (leaf l d) = refl
+  rows-preorder (group os d) = ap suc (rows-preorder-all os)
 
-  pub rows-opened-all : (os : Objects) → length (openedAll os) ≡ rowsAll os
-  rows-opened-all none = refl
-  rows-opened-all (more o os) = rw (length-append, rows-opened o, rows-opened-all os)
+  pub rows-preorder-all : (os : Objects) → length (preorderAll os) ≡ rowsAll os
+  rows-preorder-all none = refl
+  rows-preorder-all (more o os) = rw (length-append, rows-preorder o, rows-preorder-all os)
 
 mutual
-  pub rows-around : (o : Object) (own : ℕ) (around : List ℕ) → length (surroundings o own around) ≡ rows o
-  rows-around (leaf l d) own around = refl
-  rows-around (group os d) own around = ap suc (rows-around-all os (suc own) (own ∷ around))
+  pub rows-ancestors : (o : Object) (own : ℕ) (around : List ℕ) → length (ancestors o own around) ≡ rows o
+  rows-ancestors (leaf l d) own around = refl
+  rows-ancestors (group os d) own around = ap suc (rows-ancestors-all os (suc own) (own ∷ around))
 
-  pub rows-around-all : (os : Objects) (own : ℕ) (around : List ℕ) → length (surroundingsAll os own around) ≡ rowsAll os
-  rows-around-all none own around = refl
-  rows-around-all (more o os) own around = rw (length-append, rows-around o own around, rows-around-all os (own + rows o) around)
+  pub rows-ancestors-all : (os : Objects) (own : ℕ) (around : List ℕ) → length (ancestorsAll os own around) ≡ rowsAll os
+  rows-ancestors-all none own around = refl
+  rows-ancestors-all (more o os) own around = rw (length-append, rows-ancestors o own around, rows-ancestors-all os (own + rows o) around)
 
 mutual
   pub contents-length : (o : Object) (v parent own at : ℕ) → length (contents o v parent own at) ≡ 4 * rows o
@@ -64,7 +64,7 @@ each-at P (x ∷ xs) n (suc i) z h p = rw shift (each-at P xs (suc n) i z (omega
 
 -- A row of contents: what is met from it on, and that its parent is before it.
 record Led (C : List ℕ) (r : ℕ) (around : List ℕ) : Type 0 where
-  met : Met C r around
+  met : ParentChain C r around
   before : 0 < r → parentIn C r < r
 
 module _ (v : ℕ) (C : List ℕ) where
@@ -73,7 +73,7 @@ module _ (v : ℕ) (C : List ℕ) where
   beyond xs ys own next l e = rw (← l, ← drop-drop, e) (drop-append-seam xs ys)
 
   -- One step outwards, from a row to its parent.
-  step : {kind p start size own : ℕ} {rest ps : List ℕ} → Met C p ps → p < own
+  step : {kind p start size own : ℕ} {rest ps : List ℕ} → ParentChain C p ps → p < own
       → drop (4 * own) C ≡ kind ∷ p ∷ start ∷ size ∷ rest → Led C own (p ∷ ps)
   step {p = p} {own = own} m h e =
       let f : parentIn C own ≡ p = sym (getD-drop (4 * own) C 1 0) ∙ ap (λ (l : List ℕ). getD l 1 0) e in
@@ -81,16 +81,16 @@ module _ (v : ℕ) (C : List ℕ) where
 
   -- Where an object's rows stand at their place, and from its parent's row all is met, each of its rows is led.
   mutual
-    led : (o : Object) (p own at : ℕ) (behind ps : List ℕ) → Met C p ps → p < own
-        → drop (4 * own) C ≡ contents o v p own at ++ behind → Each (Led C) own (surroundings o own (p ∷ ps))
+    led : (o : Object) (p own at : ℕ) (behind ps : List ℕ) → ParentChain C p ps → p < own
+        → drop (4 * own) C ≡ contents o v p own at ++ behind → Each (Led C) own (ancestors o own (p ∷ ps))
     led (leaf l d) p own at behind ps m h e = (step m h e, tt)
     led (group os d) p own at behind ps m h e =
         let s : Led C own (p ∷ ps) = step m h e in
         let f = beyond (_ ∷ _ ∷ _ ∷ _ ∷ []) (contentsAll os v own (suc own) at ++ behind) own (suc own) (omega arith) e in
         (s, led-all os own (suc own) at behind (p ∷ ps) (s .met) (omega arith) f)
 
-    led-all : (os : Objects) (p own at : ℕ) (behind ps : List ℕ) → Met C p ps → p < own
-        → drop (4 * own) C ≡ contentsAll os v p own at ++ behind → Each (Led C) own (surroundingsAll os own (p ∷ ps))
+    led-all : (os : Objects) (p own at : ℕ) (behind ps : List ℕ) → ParentChain C p ps → p < own
+        → drop (4 * own) C ≡ contentsAll os v p own at ++ behind → Each (Led C) own (ancestorsAll os own (p ∷ ps))
     led-all none p own at behind ps m h e = tt
     led-all (more o os) p own at behind ps m h e =
         let here = contents o v p own at in
@@ -99,9 +99,9 @@ module _ (v : ℕ) (C : List ℕ) where
         let e′ : drop (4 * own) C ≡ here ++ (others ++ behind) = rw append-assoc at e in
         let l = contents-length o v p own at in
         let f = beyond here (others ++ behind) own next (omega arith) e′ in
-        each-append (Led C) (surroundings o own (p ∷ ps)) (surroundingsAll os next (p ∷ ps)) own
+        each-append (Led C) (ancestors o own (p ∷ ps)) (ancestorsAll os next (p ∷ ps)) own
         (led o p own at (others ++ behind) ps m h e′)
-        (rw rows-around (led-all os p next (at + length (bodies o v)) behind ps m (omega arith) f))
+        (rw rows-ancestors (led-all os p next (at + length (bodies o v)) behind ps m (omega arith) f))
 
 all-led : (d : Drawing) → Each (Led (contentsOf d)) 0 (groupsAround d)
 all-led d = (
@@ -111,11 +111,11 @@ all-led d = (
 
 row-led : (d : Drawing) (r : ℕ) → r < rows (outer d) → Led (contentsOf d) r (getD (groupsAround d) r [])
 row-led d r h =
-    let l = rows-around (outer d) 0 [] in
+    let l = rows-ancestors (outer d) 0 [] in
     rw zero-add at (each-at (Led (contentsOf d)) (groupsAround d) 0 r [] (omega arith) (all-led d))
 
 -- From any row, following parent numbers until row 0 meets the rows of the groups around that object, the innermost first.
-pub leads : (d : Drawing) (r : ℕ) → r < rows (outer d) → Met (contentsOf d) r (getD (groupsAround d) r [])
+pub leads : (d : Drawing) (r : ℕ) → r < rows (outer d) → ParentChain (contentsOf d) r (getD (groupsAround d) r [])
 leads d r h = row-led d r h .met
 
 pub parent-before : (d : Drawing) (r : ℕ) → 0 < r → r < rows (outer d) → parentIn (contentsOf d) r < r

@@ -11,13 +11,12 @@ use native.Mathlib.Omega.{arith}
 use borrow.Author.Tests.{leb-true, le-leb}
 use Rattle.format.specs.Digits.{Below}
 use Rattle.format.specs.Codec.{Outcome, found, refused}
-use Rattle.format.specs.FixedCodec.{words, wordFields}
-use Rattle.format.specs.FixedCodecLaws.{words-sensible, words-literal, below-behind}
+use Rattle.drawing.specs.Codecs.{words, wordFields}
+use Rattle.format.specs.FixedCodecLaws.{below-behind}
+use Rattle.laws.specs.CodecLaws.{words-sensible, words-literal}
 use Rattle.format.specs.Layout.{parse}
 use Rattle.format.specs.FixedLayoutLaws.{parse-encoded, parsed-good}
 use Rattle.drawing.specs.Limits.{lengthLimit, depthLimit}
-use Rattle.format.specs.Kind.{Allowed}
-use Rattle.drawing.specs.Fields.{count}
 use Rattle.drawing.specs.FieldLaws.{and-both}
 use Rattle.drawing.specs.String.{String}
 use Rattle.drawing.specs.Settings.{Settings, settings}
@@ -25,18 +24,12 @@ use Rattle.drawing.specs.Object.{Objects, listOf}
 use Rattle.drawing.specs.ObjectLayout.{object, groupBody}
 use Rattle.drawing.specs.Drawing.{Drawing, outer, file, fileOf, Acceptable}
 use Rattle.laws.specs.FileGood.{Parts, file-parts, parts-file}
-use Rattle.drawing.specs.Table.{wordsOf, groupKind, groupOwn, groupWords, howMany, rows, rowsAll, bodies, bodiesAll, row, contents, contentsAll, headWords, contentsOf, bodiesOf}
-use Rattle.drawing.specs.TableDrawing.{Place, Walk, met, lost, same, nextRow, walkGroup, walkObject, tableHead, walkOuter, ended, wholeTable, behindHead, drawingOfTable}
-use Rattle.laws.specs.SameLaws.{same-true}
+use Rattle.drawing.specs.Table.{wordsOf, groupKind, groupOwn, groupWords, IsTable, rows, rowsAll, bodies, bodiesAll, row, contents, contentsAll, headWords, contentsOf, bodiesOf}
+use Rattle.drawing.specs.TableDrawing.{Place, Walk, met, lost, equal, nextRow, walkGroup, walkObject, tableHead, walkOuter, ended, wholeTable, behindHead, drawingOfTable}
+use Rattle.laws.specs.EqualLaws.{equal-true}
 use Rattle.laws.specs.WalkLaws.{words-used, Holding, holding-onward, RowMet, next-row-holds}
-use Rattle.laws.specs.WalkComplete.{place, one-word, how-many, objects-of-list, group-met, walk-many, next-word}
+use Rattle.laws.specs.WalkComplete.{place, one-word, objects-of-list, group-met, walk-many, next-word}
 use Rattle.laws.specs.WalkSound.{GroupMet, group-holds, object-holds, row-below}
-
--- A table is this drawing's.
-pub record IsTable (contents bodies : List ℕ) (d : Drawing) : Type 0 where
-  pub acceptable : Acceptable d
-  pub contents-are : contents ≡ contentsOf d
-  pub bodies-are : bodies ≡ bodiesOf d
 
 -- The head's words are those of the table's own head.
 head-words : (d : Drawing) → Parts d → wordsOf tableHead (d .version, d .settings) ≡ headWords d
@@ -54,11 +47,11 @@ outer-met d g at =
     let v = d .version in
     let os = d .members in
     let bs = bodiesAll os v in
-    let gw = groupWords v (howMany os) (d .description) in
-    let own-good : groupOwn v .Good (howMany os, d .description) = (subst (Allowed (count 1)) (how-many os) (g .outer .0 .1 .0), g .outer .1) in
-    ap₂ (λ c b. walkGroup v (λ r. walkObject v (depthLimit - 1) 0 r) 0 (row groupKind 0 (at + length bs) gw) (place 1 c at b))
+    let gw = groupWords v (length (listOf os)) (d .description) in
+    let own-good : groupOwn v .Good (length (listOf os), d .description) = (g .outer .0 .1 .0, g .outer .1) in
+    ap₂ (λ c b. walkGroup v (λ r. walkObject v (depthLimit - 1) 0 r) 0 (row groupKind 0 (at + length bs) (length gw)) (place 1 c at b))
     (sym (append-nil (contentsAll os v 0 1 at))) (sym (append-nil (bs ++ gw)))
-    ∙ group-met v (howMany os) (d .description) own-good (λ r. walkObject v (depthLimit - 1) 0 r) (listOf os) 0 1 (1 + rowsAll os) at (contentsAll os v 0 1 at ++ []) [] bs []
+    ∙ group-met v (length (listOf os)) (d .description) own-good (λ r. walkObject v (depthLimit - 1) 0 r) (listOf os) 0 1 (1 + rowsAll os) at (contentsAll os v 0 1 at ++ []) [] bs []
     (walk-many os v (depthLimit - 1) 0 1 at [] (gw ++ []) (g .outer .0 .1 .1))
     ∙ ap (λ xs. met (xs, d .description) (place (1 + rowsAll os) [] (at + length bs + length gw) [])) (objects-of-list os)
     ∙ ap₂ (λ m k. met (os, d .description) (place m [] k [])) (one-more (rowsAll os)) (next-word at bs gw)
@@ -86,11 +79,11 @@ outer-holds v p b =
     (row-below p q row h b))
 
 -- What an ended walk says.
-ended-says : (c b : List ℕ) (n : ℕ) → (same c [] && same b [] && leb n lengthLimit) ≡ true → (c ≡ []) × (b ≡ []) × (n ≤ lengthLimit)
+ended-says : (c b : List ℕ) (n : ℕ) → (equal c [] && equal b [] && leb n lengthLimit) ≡ true → (c ≡ []) × (b ≡ []) × (n ≤ lengthLimit)
 ended-says c b n e =
-    let x = and-both (same c [] && same b []) (leb n lengthLimit) e in
-    let y = and-both (same c []) (same b []) (x .0) in
-    (same-true c [] (y .0), same-true b [] (y .1), leb-true n lengthLimit (x .1))
+    let x = and-both (equal c [] && equal b []) (leb n lengthLimit) e in
+    let y = and-both (equal c []) (equal b []) (x .0) in
+    (equal-true c [] (y .0), equal-true b [] (y .1), leb-true n lengthLimit (x .1))
 
 kept : (d e : Drawing) (t : Bool) → cond t (some d) none ≡ some e → (t ≡ true) × (d ≡ e)
 kept d e true p = (refl, cc)

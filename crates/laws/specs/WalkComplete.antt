@@ -5,27 +5,27 @@ use Prim.Native.Nat.{ℕ, zero, suc, _+_, _-_, _%_, _/_, _^_, _<_}
 use mathlib.Core.List.{List, [], _∷_, _++_, append-assoc}
 use lib.ListN.{length, getD, length-append}
 use lib.Seq.{getD-append-seam}
-use lib.Dec.{eqb}
+use mathlib.Core.Bool.{true, false, _&&_}
+use lib.Dec.{eqb, leb}
 use native.Mathlib.Omega.{arith}
 use native.Mathlib.Nat as Nat
 use native.Mathlib.Numerals.{add-one}
 use borrow.Author.Tests.{eq-eqb}
 use Rattle.format.specs.Kind.{Allowed}
 use Rattle.format.specs.Codec.{found, spellAll}
-use Rattle.format.specs.FixedCodec.{wordFields, spellFixed}
+use Rattle.format.specs.FixedCodec.{spellFixed}
+use Rattle.drawing.specs.Codecs.{wordFields}
 use Rattle.format.specs.Format.{Each, fields}
-use Rattle.format.specs.Layout.{Layout, _&_}
-use Rattle.drawing.specs.Fields.{count}
+use Rattle.drawing.specs.Fields.{memberCount}
 use Rattle.drawing.specs.String.{String}
-use Rattle.drawing.specs.Path.{path as pathSpecs}
-use Rattle.drawing.specs.Text.{text as textSpecs}
-use Rattle.drawing.specs.Bitmap.{bitmap as bitmapSpecs}
 use Rattle.drawing.specs.Object.{Leaf, path, text, bitmap, Object, leaf, group, Objects, none, more, listOf, ofList}
-use Rattle.drawing.specs.ObjectLayout.{object, tail}
+use Rattle.drawing.specs.ObjectId.{leafLetter}
+use Rattle.drawing.specs.LeafLayout.{leafBody, objectEnd}
+use Rattle.drawing.specs.ObjectLayout.{object}
 use Rattle.laws.specs.ObjectGood.{GoodLeaf, good-leaf, good-group, no-group}
 use Rattle.drawing.specs.Table as Table
-use Rattle.drawing.specs.Table.{wordsOf, leafWords, groupKind, groupOwn, groupWords, howMany, rows, rowsAll, bodies, bodiesAll, row, contents, contentsAll}
-use Rattle.drawing.specs.TableDrawing.{Place, Walk, met, onward, provided, body, leafBody, walkMany, walkGroup, walkObject}
+use Rattle.drawing.specs.Table.{leafKind, leafWords, groupKind, groupOwn, groupWords, rows, rowsAll, bodies, bodiesAll, row, contents, contentsAll}
+use Rattle.drawing.specs.TableDrawing.{Place, Walk, met, onward, provided, body, walkMany, walkGroup, letterOf, walkLeaf, walkKind, walkObject}
 use Rattle.laws.specs.WalkLaws.{body-met}
 
 -- A place, by its four parts.
@@ -34,19 +34,40 @@ place own C at B = record { row = own; contents = C; at = at; bodies = B }
 
 -- ---- a drawing's table is walked to its drawing
 
-leaf-met : {A : Type 0} (L : Layout A) (make : A → Object) (a : A) → L .Good a → (kind parent own at : ℕ) (C B : List ℕ)
-    → leafBody L make kind parent (row kind parent at (wordsOf L a)) (place own C at (wordsOf L a ++ B)) ≡ met (make a) (place own C (at + length (wordsOf L a)) B)
-leaf-met L make a g kind parent own at C B = ap (λ w. onward w (λ x q. met (make x) q)) (body-met L a g kind parent own at C B)
+-- A leaf's kind tells its letter.
+letter-of : (l : Leaf) → letterOf (leafKind l) ≡ leafLetter l
+letter-of (path x) = refl
+letter-of (text x) = refl
+letter-of (bitmap x) = refl
+
+kind-in-range : (l : Leaf) → (leb 2 (leafKind l) && leb (leafKind l) 4) ≡ true
+kind-in-range (path x) = refl
+kind-in-range (text x) = refl
+kind-in-range (bitmap x) = refl
+
+no-group-kind : (l : Leaf) → eqb (leafKind l) groupKind ≡ false
+no-group-kind (path x) = refl
+no-group-kind (text x) = refl
+no-group-kind (bitmap x) = refl
+
+leaf-met : (l : Leaf) (d : String) (v parent own at : ℕ) (C B : List ℕ) → GoodLeaf v l d
+    → walkLeaf v parent (row (leafKind l) parent at (length (leafWords v l d))) (place own C at (leafWords v l d ++ B))
+    ≡ met (leaf l d) (place own C (at + length (leafWords v l d)) B)
+leaf-met l d v parent own at C B g =
+    let k = leafKind l in
+    let r = row k parent at (length (leafWords v l d)) in
+    let p = place own C at (leafWords v l d ++ B) in
+    ap (λ t. provided t (onward (body (leafBody v (letterOf k)) k parent r p) (λ (x, e) q. met (leaf x e) q))) (kind-in-range l)
+    ∙ ap (λ c. onward (body (leafBody v c) k parent r p) (λ (x, e) q. met (leaf x e) q)) (letter-of l)
+    ∙ ap (λ w. onward w (λ (x, e) q. met (leaf x e) q)) (body-met (leafBody v (leafLetter l)) (l, d) g k parent own at C B)
 
 walk-leaf : (l : Leaf) (d : String) (v deep parent own at : ℕ) (C B : List ℕ) → GoodLeaf v l d
     → walkObject v deep parent (place own (contents (leaf l d) v parent own at ++ C) at (leafWords v l d ++ B))
     ≡ met (leaf l d) (place (suc own) C (at + length (leafWords v l d)) B)
-walk-leaf (path x) d v zero parent own at C B g = leaf-met (pathSpecs v & tail v) (λ (x, d). leaf (path x) d) (x, d) g 2 parent (suc own) at C B
-walk-leaf (text x) d v zero parent own at C B g = leaf-met (textSpecs v & tail v) (λ (x, d). leaf (text x) d) (x, d) g 3 parent (suc own) at C B
-walk-leaf (bitmap x) d v zero parent own at C B g = leaf-met (bitmapSpecs & tail v) (λ (x, d). leaf (bitmap x) d) (x, d) g 4 parent (suc own) at C B
-walk-leaf (path x) d v (suc deep) parent own at C B g = leaf-met (pathSpecs v & tail v) (λ (x, d). leaf (path x) d) (x, d) g 2 parent (suc own) at C B
-walk-leaf (text x) d v (suc deep) parent own at C B g = leaf-met (textSpecs v & tail v) (λ (x, d). leaf (text x) d) (x, d) g 3 parent (suc own) at C B
-walk-leaf (bitmap x) d v (suc deep) parent own at C B g = leaf-met (bitmapSpecs & tail v) (λ (x, d). leaf (bitmap x) d) (x, d) g 4 parent (suc own) at C B
+walk-leaf l d v zero parent own at C B g = leaf-met l d v parent (suc own) at C B g
+walk-leaf l d v (suc deep) parent own at C B g =
+    ap (λ t. walkKind t v (λ r. walkObject v deep own r) parent (row (leafKind l) parent at (length (leafWords v l d))) (place (suc own) C at (leafWords v l d ++ B))) (no-group-kind l)
+    ∙ leaf-met l d v parent (suc own) at C B g
 
 -- The count in a group's body, found by where its row says that the body begins.
 first-word : (at w : ℕ) (bs rest B : List ℕ) → getD (bs ++ (w ∷ rest) ++ B) (at + length bs - at) 0 ≡ w
@@ -57,9 +78,9 @@ first-word at w bs rest B =
 pub one-word : (n : ℕ) → n < 256 ^ 4 → n / 1 % 2 ^ 32 ≡ n
 one-word n h = rw Nat.div-one (Nat.mod-eq-of-lt h)
 
-guessed : (v n : ℕ) (d : String) (at : ℕ) (bs B : List ℕ) → Allowed (count 1) n → getD (bs ++ groupWords v n d ++ B) (at + length bs - at) 0 ≡ n
+guessed : (v n : ℕ) (d : String) (at : ℕ) (bs B : List ℕ) → Allowed memberCount n → getD (bs ++ groupWords v n d ++ B) (at + length bs - at) 0 ≡ n
 guessed v n d at bs B a =
-    first-word at (n / 1 % 2 ^ 32) bs (spellAll (spellFixed wordFields) (fields (tail v .format) d)) B ∙ one-word n (a .fits)
+    first-word at (n / 1 % 2 ^ 32) bs (spellAll (spellFixed wordFields) (fields (objectEnd v .format) d)) B ∙ one-word n (a .fits)
 
 -- A group with so many objects, behind whatever has walked over them.
 abbrev counted : ℕ → ℕ → (Place → Walk Object) → (parent : ℕ) (row : List ℕ) → Place → Walk (Objects × String)
@@ -70,20 +91,16 @@ counted n v each parent row p =
 
 pub group-met : (v n : ℕ) (d : String) → groupOwn v .Good (n, d) → (each : Place → Walk Object) (os : List Object) (parent own own′ at : ℕ) (X C bs B : List ℕ)
     → walkMany n each (place own X at (bs ++ (groupWords v n d ++ B))) ≡ met os (place own′ C (at + length bs) (groupWords v n d ++ B))
-    → walkGroup v each parent (row groupKind parent (at + length bs) (groupWords v n d)) (place own X at (bs ++ groupWords v n d ++ B))
+    → walkGroup v each parent (row groupKind parent (at + length bs) (length (groupWords v n d))) (place own X at (bs ++ groupWords v n d ++ B))
     ≡ met (ofList os, d) (place own′ C (at + length bs + length (groupWords v n d)) B)
 group-met v n d g each os parent own own′ at X C bs B many =
     let gw = groupWords v n d in
-    let r = row groupKind parent (at + length bs) gw in
+    let r = row groupKind parent (at + length bs) (length gw) in
     ap (λ m. counted m v each parent r (place own X at (bs ++ gw ++ B))) (guessed v n d at bs B (g .0))
     ∙ ap (λ l. counted n v each parent r (place own X at l)) (append-assoc bs gw B)
     ∙ ap (λ w. onward w (λ xs q. onward (body (groupOwn v) groupKind parent r q) (λ o s. provided (eqb (o .0) n) (met (ofList xs, o .1) s)))) many
     ∙ ap (λ w. onward w (λ o s. provided (eqb (o .0) n) (met (ofList os, o .1) s))) (body-met (groupOwn v) (n, d) g groupKind parent own′ (at + length bs) C B)
     ∙ ap (λ t. provided t (met (ofList os, d) (place own′ C (at + length bs + length gw) B))) (eq-eqb n n refl)
-
-pub how-many : (os : Objects) → length (listOf os) ≡ howMany os
-how-many none = refl
-how-many (more o os) = ap suc (how-many os)
 
 pub objects-of-list : (os : Objects) → ofList (listOf os) ≡ os
 objects-of-list none = refl
@@ -108,23 +125,23 @@ mutual
   walk-object (group os d) v zero parent own at C B g = absurd (no-group v os d g)
   walk-object (group os d) v (suc deep) parent own at C B g =
       let b = good-group v deep os d g in
-      let own-good : groupOwn v .Good (howMany os, d) = (rw (how-many os) at (b .0 .1 .0), b .1) in
-      let gw = groupWords v (howMany os) d in
+      let own-good : groupOwn v .Good (length (listOf os), d) = (b .0 .1 .0, b .1) in
+      let gw = groupWords v (length (listOf os)) d in
       let m = walk-many os v deep own (suc own) at C (gw ++ B) (b .0 .1 .1) in
       ap (λ w. onward w (λ (xs, e) q. met (group xs e) q))
-      (group-met v (howMany os) d own-good (λ r. walkObject v deep own r) (listOf os) parent (suc own) (suc own + rowsAll os) at (contentsAll os v own (suc own) at ++ C) C (bodiesAll os v) B m)
+      (group-met v (length (listOf os)) d own-good (λ r. walkObject v deep own r) (listOf os) parent (suc own) (suc own + rowsAll os) at (contentsAll os v own (suc own) at ++ C) C (bodiesAll os v) B m)
       ∙ ap (λ xs. met (group xs d) (place (suc own + rowsAll os) C (at + length (bodiesAll os v) + length gw) B)) (objects-of-list os)
       ∙ ap₂ (λ m k. met (group os d) (place m C k B)) (next-row own (rowsAll os)) (next-word at (bodiesAll os v) gw)
 
   pub walk-many : (os : Objects) (v deep parent own at : ℕ) (C B : List ℕ) → AllGood v deep os
-      → walkMany (howMany os) (λ r. walkObject v deep parent r) (place own (contentsAll os v parent own at ++ C) at (bodiesAll os v ++ B))
+      → walkMany (length (listOf os)) (λ r. walkObject v deep parent r) (place own (contentsAll os v parent own at ++ C) at (bodiesAll os v ++ B))
       ≡ met (listOf os) (place (own + rowsAll os) C (at + length (bodiesAll os v)) B)
   walk-many none v deep parent own at C B g = ap₂ (λ m k. met [] (place m C k B)) (sym (Nat.add-zero own)) (sym (Nat.add-zero at))
   walk-many (more o os) v deep parent own at C B g =
       let cs = contentsAll os v parent (own + rows o) (at + length (bodies o v)) in
-      ap₂ (λ c b. onward (walkObject v deep parent (place own c at b)) (λ x q. onward (walkMany (howMany os) (λ r. walkObject v deep parent r) q) (λ xs r. met (x ∷ xs) r)))
+      ap₂ (λ c b. onward (walkObject v deep parent (place own c at b)) (λ x q. onward (walkMany (length (listOf os)) (λ r. walkObject v deep parent r) q) (λ xs r. met (x ∷ xs) r)))
       (append-assoc (contents o v parent own at) cs C) (append-assoc (bodies o v) (bodiesAll os v) B)
-      ∙ ap (λ w. onward w (λ x q. onward (walkMany (howMany os) (λ r. walkObject v deep parent r) q) (λ xs r. met (x ∷ xs) r)))
+      ∙ ap (λ w. onward w (λ x q. onward (walkMany (length (listOf os)) (λ r. walkObject v deep parent r) q) (λ xs r. met (x ∷ xs) r)))
       (walk-object o v deep parent own at (cs ++ C) (bodiesAll os v ++ B) (g .0))
       ∙ ap (λ w. onward w (λ xs r. met (o ∷ xs) r)) (walk-many os v deep parent (own + rows o) (at + length (bodies o v)) C B (g .1))
       ∙ ap₂ (λ m k. met (o ∷ listOf os) (place m C k B)) (Nat.add-assoc own (rows o) (rowsAll os)) (next-word at (bodies o v) (bodiesAll os v))

@@ -9,13 +9,15 @@ use native.Mathlib.Omega.{arith}
 use native.Mathlib.Nat as Nat
 use Rattle.format.specs.Digits.{Below}
 use Rattle.format.specs.Codec.{Outcome, found, refused}
-use Rattle.format.specs.FixedCodec.{cut, words, wordFields}
-use Rattle.format.specs.FixedCodecLaws.{words-sensible, words-literal, CutSays, cut-says, below-behind}
+use Rattle.format.specs.FixedCodec.{splitAt}
+use Rattle.drawing.specs.Codecs.{words, wordFields}
+use Rattle.format.specs.FixedCodecLaws.{SplitSays, splitAt-says, below-behind}
+use Rattle.laws.specs.CodecLaws.{words-sensible, words-literal}
 use Rattle.format.specs.Layout.{Layout, parse}
 use Rattle.format.specs.FixedLayoutLaws.{parse-encoded, parsed-good}
 use Rattle.drawing.specs.Table.{wordsOf, row}
-use Rattle.laws.specs.SameLaws.{same-refl, same-true}
-use Rattle.drawing.specs.TableDrawing.{Place, Walk, met, lost, onward, provided, same, rowFrom, nextRow, bodyFrom, body}
+use Rattle.laws.specs.EqualLaws.{equal-refl, equal-true}
+use Rattle.drawing.specs.TableDrawing.{Place, Walk, met, lost, onward, provided, equal, rowFrom, nextRow, bodyFrom, body}
 
 -- ---- bodies
 
@@ -25,14 +27,14 @@ words-used ws B = rw length-append (omega arith)
 found-met : {A : Type 0} (a : A) (kind parent own at : ℕ) (C ws B : List ℕ)
     → bodyFrom kind parent (kind ∷ parent ∷ at ∷ length ws ∷ []) (record { row = own; contents = C; at = at; bodies = ws ++ B }) (found a B)
     ≡ met a (record { row = own; contents = C; at = at + length ws; bodies = B })
-found-met a kind parent own at C ws B = rw (words-used ws B, same-refl (kind ∷ parent ∷ at ∷ length ws ∷ []))
+found-met a kind parent own at C ws B = rw (words-used ws B, equal-refl (kind ∷ parent ∷ at ∷ length ws ∷ []))
 
 -- A body that stands where it should, with its row.
 pub body-met : {A : Type 0} (L : Layout A) (a : A) → L .Good a → (kind parent own at : ℕ) (C B : List ℕ)
-    → body L kind parent (row kind parent at (wordsOf L a)) (record { row = own; contents = C; at = at; bodies = wordsOf L a ++ B })
+    → body L kind parent (row kind parent at (length (wordsOf L a))) (record { row = own; contents = C; at = at; bodies = wordsOf L a ++ B })
     ≡ met a (record { row = own; contents = C; at = at + length (wordsOf L a); bodies = B })
 body-met L a g kind parent own at C B =
-    ap (bodyFrom kind parent (row kind parent at (wordsOf L a)) (record { row = own; contents = C; at = at; bodies = wordsOf L a ++ B }))
+    ap (bodyFrom kind parent (row kind parent at (length (wordsOf L a))) (record { row = own; contents = C; at = at; bodies = wordsOf L a ++ B }))
     (parse-encoded wordFields words-sensible words-literal L a g B)
     ∙ found-met a kind parent own at C (wordsOf L a) B
 
@@ -78,12 +80,12 @@ pub record RowMet (p : Place) (row : List ℕ) (q : Place) : Type 0 where
   pub at : q .at ≡ p .at
   pub bodies : p .bodies ≡ q .bodies
 
-row-holds : (p : Place) (o : Option (List ℕ × List ℕ)) → CutSays 4 (p .contents) o → Holding (RowMet p) (rowFrom p o)
+row-holds : (p : Place) (o : Option (List ℕ × List ℕ)) → SplitSays 4 (p .contents) o → Holding (RowMet p) (rowFrom p o)
 row-holds p none h = tt
 row-holds p (some parts) h = record { next = refl; contents = h .0; at = refl; bodies = refl }
 
 pub next-row-holds : (p : Place) → Holding (RowMet p) (nextRow p)
-next-row-holds p = row-holds p (cut 4 (p .contents)) (cut-says 4 (p .contents))
+next-row-holds p = row-holds p (splitAt 4 (p .contents)) (splitAt-says 4 (p .contents))
 
 -- A body was met: a good value, its words, and the row that says so.
 pub record BodyMet {A : Type 0} (L : Layout A) (kind parent : ℕ) (row : List ℕ) (p : Place) (a : A) (q : Place) : Type 0 where
@@ -98,13 +100,13 @@ body-holds-from L kind parent row p b (found a rest) e =
     let h = parsed-good wordFields words-sensible words-literal L (p .bodies) b a rest e in
     let used : length (p .bodies) - length rest ≡ length (wordsOf L a) = ap (λ l. length l - length rest) (h .1) ∙ words-used (wordsOf L a) rest in
     let n = length (p .bodies) - length rest in
-    holding-provided (BodyMet L kind parent row p) (same row (kind ∷ parent ∷ p .at ∷ n ∷ []))
+    holding-provided (BodyMet L kind parent row p) (equal row (kind ∷ parent ∷ p .at ∷ n ∷ []))
     (met a (record { row = p .row; contents = p .contents; at = p .at + n; bodies = rest }))
     (λ t.
     record {
       good = h .0;
       over = record { row = sym (Nat.add-zero (p .row)); contents = refl; at = ap (λ m. p .at + m) used; bodies = h .1 };
-      row-is = same-true row (kind ∷ parent ∷ p .at ∷ n ∷ []) t ∙ ap {B = List ℕ} (λ m. kind ∷ parent ∷ p .at ∷ m ∷ []) used;
+      row-is = equal-true row (kind ∷ parent ∷ p .at ∷ n ∷ []) t ∙ ap {B = List ℕ} (λ m. kind ∷ parent ∷ p .at ∷ m ∷ []) used;
     })
 
 pub body-holds : {A : Type 0} (L : Layout A) (kind parent : ℕ) (row : List ℕ) (p : Place) → Below (2 ^ 32) (p .bodies) → Holding (BodyMet L kind parent row p) (body L kind parent row p)

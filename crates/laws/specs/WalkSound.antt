@@ -1,30 +1,31 @@
 -- What is walked over is a good object's part of a table.
 use mathlib.Core.Path.{_≡_, refl, sym, ap, _∙_, subst, subst₂, subst₃}
-use mathlib.Core.Bool.{Bool, true, false}
-use Prim.Native.Nat.{ℕ, zero, suc, _+_, _-_, _^_}
+use mathlib.Core.Bool.{Bool, true, false, _&&_}
+use Prim.Native.Nat.{ℕ, zero, suc, _+_, _-_, _^_, _≤_}
 use mathlib.Core.List.{List, _∷_, _++_}
 use lib.ListN.{length, getD}
-use lib.Dec.{eqb}
+use lib.Dec.{eqb, leb}
 use native.Mathlib.Nat as Nat
-use borrow.Author.Tests.{eqb-true}
+use native.Mathlib.Omega.{arith}
+use borrow.Author.Tests.{eqb-true, leb-true}
+use Rattle.format.specs.AlternativeLaws.{told-tells}
 use Rattle.format.specs.Digits.{Below}
 use Rattle.format.specs.Kind.{Allowed}
 use Rattle.format.specs.Format.{Each}
 use Rattle.format.specs.FormatLaws.{each-length}
-use Rattle.format.specs.Layout.{Layout, _&_}
-use Rattle.drawing.specs.Fields.{count}
+use Rattle.drawing.specs.Fields.{memberCount}
+use Rattle.drawing.specs.FieldLaws.{and-both}
 use Rattle.drawing.specs.String.{String}
-use Rattle.drawing.specs.Path.{path as pathSpecs}
-use Rattle.drawing.specs.Text.{text as textSpecs}
-use Rattle.drawing.specs.Bitmap.{bitmap as bitmapSpecs}
-use Rattle.drawing.specs.Object.{path, text, bitmap, Object, leaf, group, Objects, listOf, ofList}
-use Rattle.drawing.specs.ObjectLayout.{object, tail, groupBody}
+use Rattle.drawing.specs.Object.{Leaf, path, text, bitmap, Object, leaf, group, Objects, listOf, ofList}
+use Rattle.drawing.specs.ObjectId.{leafLetter}
+use Rattle.drawing.specs.LeafLayout.{pathCase, otherCases, isLeaf, leafBody}
+use Rattle.drawing.specs.ObjectLayout.{object, groupBody}
 use Rattle.drawing.specs.ObjectLaws.{list-of-list}
-use Rattle.laws.specs.WalkComplete.{AllGood, how-many}
+use Rattle.laws.specs.WalkComplete.{AllGood}
 use Rattle.laws.specs.ObjectGood.{leaf-good, group-good}
 use Rattle.drawing.specs.Table as Table
-use Rattle.drawing.specs.Table.{groupKind, groupOwn, groupWords, howMany, rows, rowsAll, bodies, bodiesAll, row, contents, contentsAll}
-use Rattle.drawing.specs.TableDrawing.{Place, Walk, met, lost, onward, provided, nextRow, body, leafBody, walkMany, walkGroup, walkLeaf, walkKind, walkObject}
+use Rattle.drawing.specs.Table.{wordsOf, leafKind, groupKind, groupOwn, groupWords, rows, rowsAll, bodies, bodiesAll, row, kindIn, startIn, contents, contentsAll}
+use Rattle.drawing.specs.TableDrawing.{Place, Walk, met, onward, provided, nextRow, body, walkMany, walkGroup, letterOf, walkLeaf, walkKind, walkObject}
 use Rattle.laws.specs.WalkLaws.{Holding, holding-onward, holding-provided, Over, over-both, over-below, RowMet, next-row-holds, BodyMet, body-holds, leaf-over, group-over}
 
 -- ---- what is walked over is a good drawing's table
@@ -75,16 +76,15 @@ group-of : (v deep parent n : ℕ) (row : List ℕ) (p q s r : Place) (os : List
 group-of v deep parent n row p q s r os own h m b e =
     let long : length os ≡ n = each-length {S = Unit {0}} (λ s. object v deep .Good) (λ s a. s) n tt os (m .good) in
     let listed : length (listOf (ofList os)) ≡ own .0 = ap length (list-of-list os) ∙ long ∙ sym e in
-    let many : own .0 ≡ howMany (ofList os) = sym listed ∙ how-many (ofList os) in
     let all = group-over (groupOwn v) groupKind parent row p q s r own (rowsAll (ofList os)) (contentsAll (ofList os) v (p .row) (q .row) (q .at)) (bodiesAll (ofList os) v) h (m .over) b in
     record {
-      good = ((ap ofList (list-of-list os), (subst (Allowed (count 1)) (sym listed) (b .good .0), each-list v deep n os (m .good))), b .good .1);
+      good = ((ap ofList (list-of-list os), (subst (Allowed memberCount) (sym listed) (b .good .0), each-list v deep n os (m .good))), b .good .1);
       over =
           subst₃ (λ k own′ at.
           Over p r (suc (rowsAll (ofList os)))
-          (Table.row groupKind parent (p .at + length (bodiesAll (ofList os) v)) (groupWords v k (own .1)) ++ contentsAll (ofList os) v (p .row) own′ at)
+          (Table.row groupKind parent (p .at + length (bodiesAll (ofList os) v)) (length (groupWords v k (own .1))) ++ contentsAll (ofList os) v (p .row) own′ at)
           (bodiesAll (ofList os) v ++ groupWords v k (own .1)))
-          many (h .next) (h .at) all;
+          (sym listed) (h .next) (h .at) all;
     }
 
 -- The outer walk of a group, behind a row that was met.
@@ -92,7 +92,7 @@ pub group-holds : (v deep parent : ℕ) (each : Place → Walk Object) (p q : Pl
     → ((r : Place) → Below (2 ^ 32) (r .bodies) → Holding (ObjectMet v deep (p .row) r) (each r))
     → Below (2 ^ 32) (q .bodies) → Holding (GroupMet v deep parent p) (walkGroup v each parent row q)
 group-holds v deep parent each p q row h e b =
-    let n = getD (q .bodies) (getD row 2 0 - q .at) 0 in
+    let n = getD (q .bodies) (startIn row 0 - q .at) 0 in
     holding-onward (ManyMet v deep (p .row) n q) (GroupMet v deep parent p) (walkMany n each q)
     (λ os s. onward (body (groupOwn v) groupKind parent row s) (λ own r. provided (eqb (own .0) n) (met (ofList os, own .1) r)))
     (many-holds v deep (p .row) each e n q b)
@@ -104,23 +104,54 @@ group-holds v deep parent each p q row h e b =
     holding-provided (GroupMet v deep parent p) (eqb (own .0) n) (met (ofList os, own .1) r)
     (λ t. group-of v deep parent n row p q s r os own h m w (eqb-true (own .0) n t))))
 
-leaf-holds : {A : Type 0} (L : Layout A) (make : A → Object) (kind : ℕ) (v deep parent : ℕ) (p q : Place) (row : List ℕ) → RowMet p row q → Below (2 ^ 32) (q .bodies)
-    → ((a : A) (r : Place) → BodyMet L kind parent row q a r → ObjectMet v deep parent p (make a) r)
-    → Holding (ObjectMet v deep parent p) (leafBody L make kind parent row q)
-leaf-holds L make kind v deep parent p q row h b f =
-    holding-onward (BodyMet L kind parent row q) (ObjectMet v deep parent p) (body L kind parent row q) (λ a r. met (make a) r) (body-holds L kind parent row q b) f
+-- ---- leaves
 
-any-leaf-holds : (v deep parent : ℕ) (p q : Place) (row : List ℕ) (isPath isText : Bool) → RowMet p row q → Below (2 ^ 32) (q .bodies)
-    → Holding (ObjectMet v deep parent p) (walkLeaf isPath isText v parent row q)
-any-leaf-holds v deep parent p q row true isText h b =
-    leaf-holds (pathSpecs v & tail v) (λ (x, d). leaf (path x) d) 2 v deep parent p q row h b
-    (λ a r w. record { good = leaf-good v deep (path (a .0)) (a .1) (w .good); over = leaf-over (pathSpecs v & tail v) 2 parent row p q r a h w })
-any-leaf-holds v deep parent p q row false true h b =
-    leaf-holds (textSpecs v & tail v) (λ (x, d). leaf (text x) d) 3 v deep parent p q row h b
-    (λ a r w. record { good = leaf-good v deep (text (a .0)) (a .1) (w .good); over = leaf-over (textSpecs v & tail v) 3 parent row p q r a h w })
-any-leaf-holds v deep parent p q row false false h b =
-    leaf-holds (bitmapSpecs & tail v) (λ (x, d). leaf (bitmap x) d) 4 v deep parent p q row h b
-    (λ a r w. record { good = leaf-good v deep (bitmap (a .0)) (a .1) (w .good); over = leaf-over (bitmapSpecs & tail v) 4 parent row p q r a h w })
+-- A kind in range and its letter tell one another.
+kind-letter : (k : ℕ) → 2 ≤ k → k ≤ 4 → (v : ℕ) → isLeaf v (letterOf k) ≡ true
+kind-letter zero h g v = absurd (omega arith)
+kind-letter (suc zero) h g v = absurd (omega arith)
+kind-letter (suc (suc zero)) h g v = refl
+kind-letter (suc (suc (suc zero))) h g v = refl
+kind-letter (suc (suc (suc (suc zero)))) h g v = refl
+kind-letter (suc (suc (suc (suc (suc n))))) h g v = absurd (omega arith)
+
+letter-kind : (k : ℕ) → 2 ≤ k → k ≤ 4 → (l : Leaf) → leafLetter l ≡ letterOf k → k ≡ leafKind l
+letter-kind zero h g l e = absurd (omega arith)
+letter-kind (suc zero) h g l e = absurd (omega arith)
+letter-kind (suc (suc zero)) h g (path x) e = refl
+letter-kind (suc (suc zero)) h g (text x) e = absurd (omega arith)
+letter-kind (suc (suc zero)) h g (bitmap x) e = absurd (omega arith)
+letter-kind (suc (suc (suc zero))) h g (path x) e = absurd (omega arith)
+letter-kind (suc (suc (suc zero))) h g (text x) e = refl
+letter-kind (suc (suc (suc zero))) h g (bitmap x) e = absurd (omega arith)
+letter-kind (suc (suc (suc (suc zero)))) h g (path x) e = absurd (omega arith)
+letter-kind (suc (suc (suc (suc zero)))) h g (text x) e = absurd (omega arith)
+letter-kind (suc (suc (suc (suc zero)))) h g (bitmap x) e = refl
+letter-kind (suc (suc (suc (suc (suc n))))) h g l e = absurd (omega arith)
+
+leaf-of : (v deep parent k : ℕ) (words : List ℕ) (p q r : Place) (t : Leaf × String) → 2 ≤ k → k ≤ 4 → RowMet p words q
+    → BodyMet (leafBody v (letterOf k)) k parent words q t r → ObjectMet v deep parent p (leaf (t .0) (t .1)) r
+leaf-of v deep parent k words p q r t low high h w =
+    let tells : leafLetter (t .0) ≡ letterOf k = told-tells (pathCase v) (otherCases v) (letterOf k) (t .0) (kind-letter k low high v) (w .good .0) in
+    let kind-is : k ≡ leafKind (t .0) = letter-kind k low high (t .0) tells in
+    record {
+      good = leaf-good v deep (t .0) (t .1) (subst (λ c. leafBody v c .Good t) (sym tells) (w .good));
+      over =
+          subst₂ (λ kind c. Over p r 1 (row kind parent (p .at) (length (wordsOf (leafBody v c) t))) (wordsOf (leafBody v c) t))
+          kind-is (sym tells) (leaf-over (leafBody v (letterOf k)) k parent words p q r t h w);
+    }
+
+leaf-holds : (v deep parent : ℕ) (p q : Place) (words : List ℕ) → RowMet p words q → Below (2 ^ 32) (q .bodies)
+    → Holding (ObjectMet v deep parent p) (walkLeaf v parent words q)
+leaf-holds v deep parent p q words h b =
+    let k = kindIn words 0 in
+    holding-provided (ObjectMet v deep parent p) (leb 2 k && leb k 4)
+    (onward (body (leafBody v (letterOf k)) k parent words q) (λ (l, d) r. met (leaf l d) r))
+    (λ t.
+    let range = and-both (leb 2 k) (leb k 4) t in
+    holding-onward (BodyMet (leafBody v (letterOf k)) k parent words q) (ObjectMet v deep parent p) (body (leafBody v (letterOf k)) k parent words q) (λ (l, d) r. met (leaf l d) r)
+    (body-holds (leafBody v (letterOf k)) k parent words q b)
+    (λ x r w. leaf-of v deep parent k words p q r x (leb-true 2 k (range .0)) (leb-true k 4 (range .1)) h w))
 
 pub row-below : (p q : Place) (row : List ℕ) → RowMet p row q → Below (2 ^ 32) (p .bodies) → Below (2 ^ 32) (q .bodies)
 row-below p q row h b = rw (h .bodies) at b
@@ -132,12 +163,12 @@ kind-holds v deep parent p q row true h b e =
     holding-onward (GroupMet v deep parent p) (ObjectMet v (suc deep) parent p) (walkGroup v (λ r. walkObject v deep (p .row) r) parent row q) (λ (os, d) r. met (group os d) r)
     (group-holds v deep parent (λ r. walkObject v deep (p .row) r) p q row h e b)
     (λ t r g. record { good = group-good v deep (t .0) (t .1) (g .good); over = g .over })
-kind-holds v deep parent p q row false h b e = any-leaf-holds v (suc deep) parent p q row (eqb (getD row 0 0) 2) (eqb (getD row 0 0) 3) h b
+kind-holds v deep parent p q row false h b e = leaf-holds v (suc deep) parent p q row h b
 
 pub object-holds : (v deep parent : ℕ) (p : Place) → Below (2 ^ 32) (p .bodies) → Holding (ObjectMet v deep parent p) (walkObject v deep parent p)
 object-holds v zero parent p b =
-    holding-onward (RowMet p) (ObjectMet v zero parent p) (nextRow p) (λ row q. walkKind false v (λ r. lost) parent row q) (next-row-holds p)
-    (λ row q h. any-leaf-holds v zero parent p q row (eqb (getD row 0 0) 2) (eqb (getD row 0 0) 3) h (row-below p q row h b))
+    holding-onward (RowMet p) (ObjectMet v zero parent p) (nextRow p) (λ words q. walkLeaf v parent words q) (next-row-holds p)
+    (λ words q h. leaf-holds v zero parent p q words h (row-below p q words h b))
 object-holds v (suc deep) parent p b =
-    holding-onward (RowMet p) (ObjectMet v (suc deep) parent p) (nextRow p) (λ row q. walkKind (eqb (getD row 0 0) groupKind) v (λ r. walkObject v deep (p .row) r) parent row q) (next-row-holds p)
-    (λ row q h. kind-holds v deep parent p q row (eqb (getD row 0 0) groupKind) h (row-below p q row h b) (λ r c. object-holds v deep (p .row) r c))
+    holding-onward (RowMet p) (ObjectMet v (suc deep) parent p) (nextRow p) (λ words q. walkKind (eqb (kindIn words 0) groupKind) v (λ r. walkObject v deep (p .row) r) parent words q) (next-row-holds p)
+    (λ words q h. kind-holds v deep parent p q words (eqb (kindIn words 0) groupKind) h (row-below p q words h b) (λ r c. object-holds v deep (p .row) r c))
