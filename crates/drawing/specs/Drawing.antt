@@ -37,15 +37,18 @@ version = renamed (field versionChars) (λ c. c - versionZero) (λ m. versionZer
 abbrev pub outerGroup : ℕ → Layout (Objects × String)
 outerGroup v = constant (charWhere (λ c. eqb c (code "G"))) (code "G") outer-only (groupBody v (object v (depthLimit - 1)))
 
-abbrev pub file : Layout Drawing
-file =
-    constant magic jdr magic-only
-    (constant versionLength 3 version-length-only
-    (renamed
+-- A drawing, from a layout of its version on.
+abbrev pub drawingFrom : Layout ℕ → Layout Drawing
+drawingFrom version =
+    renamed
     (version ▸ λ v. settings v & outerGroup v)
-    (λ (version, (settings, (members, description))). record { version = version; settings = settings; members = members; description = description })
+    (λ (version, (settings, (members, description))).
+    record { version = version; settings = settings; members = members; description = description })
     (λ d. (d .version, (d .settings, (d .members, d .description))))
-    (λ t good. refl)))
+    (λ t good. refl)
+
+abbrev pub file : Layout Drawing
+file = constant magic jdr magic-only (constant versionLength 3 version-length-only (drawingFrom version))
 
 -- The bytes of a drawing's file.
 abbrev pub fileOf : Drawing → List ℕ

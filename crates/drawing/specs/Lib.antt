@@ -28,3 +28,4 @@ pub mod Order
 pub mod Answers
 pub mod Questions
 pub mod MarkedPlans
+pub mod examples

@@ -79,10 +79,12 @@ plainPaint v = byChar plainLetter transparentCase (plainCases v)
 abbrev pub asPaint : Alternative Plain plainLetter → Alternative Paint paintLetter
 asPaint = within plain plainOf (λ p. refl) (λ p. refl)
 
-abbrev pub paint : ℕ → Layout Paint
-paint v =
-    byChar paintLetter (asPaint transparentCase)
-    (map asPaint (plainCases v)
+abbrev pub paintCases : ℕ → List (Alternative Paint paintLetter)
+paintCases v =
+    map asPaint (plainCases v)
     ++ (alternative (code "G") true (plainPaint v & plainPaint v & field (integerIn 0 7)) (λ (start, (end, direction)). linear start end direction) gradientOf (λ g. refl) (λ g. refl)
     ∷ alternative (code "D") (leb 3 v) (plainPaint v & plainPaint v & field (integerIn 0 8)) (λ (start, (end, location)). radial start end location) gradientOf (λ g. refl) (λ g. refl)
-    ∷ []))
+    ∷ [])
+
+abbrev pub paint : ℕ → Layout Paint
+paint v = byChar paintLetter (asPaint transparentCase) (paintCases v)
