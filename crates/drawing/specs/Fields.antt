@@ -109,15 +109,19 @@ abbrev pub oneOfChars : List ℕ → ℕ → Bool
 oneOfChars [] c = false
 oneOfChars (x ∷ xs) c = eqb c x || oneOfChars xs c
 
--- an object's id: that of a leaf, or a group's, which may not nest too deep
-abbrev pub objectId : (leaf : ℕ → Bool) (deeper : Bool) → Kind
-objectId leaf deeper =
-    record { shape = K.char; fault = λ v. cond (leaf v) 0 (cond (eqb v (code "G")) (unless deeper 10) 7) }
+-- An object's id is a leaf's (`leaf`), or a group's (`group`) where one may nest deeper; any other is not allowed.
+abbrev pub objectFault : (leaf group deeper : Bool) → ℕ
+objectFault leaf group deeper = cond leaf 0 (cond group (unless deeper 10) 7)
 
--- a marker's id: one that is not 0 only where the chain may go on
+abbrev pub objectId : (leaf : ℕ → Bool) (deeper : Bool) → Kind
+objectId leaf deeper = record { shape = K.char; fault = λ v. objectFault (leaf v) (eqb v (code "G")) deeper }
+
+-- A marker's id is in the list, and then it is 0 or the chain may go on.
+abbrev pub markerFault : (listed may : Bool) → ℕ
+markerFault listed may = orElse (unless listed 6) (unless may 10)
+
 abbrev pub markerId : ℕ → Bool → Kind
-markerId high more =
-    record { shape = K.byte; fault = λ v. orElse (unless (inRange 0 high (toZ w8 v)) 6) (unless (more || eqb v 0) 10) }
+markerId high more = record { shape = K.byte; fault = λ v. markerFault (inRange 0 high (toZ w8 v)) (more || eqb v 0) }
 
 -- ---- floats and doubles
 

@@ -11,7 +11,7 @@ use Rattle.format.specs.Kind.{Allowed}
 use Rattle.format.specs.Format.{Made}
 use Rattle.format.specs.Layout.{Layout}
 use Rattle.format.specs.AlternativeLaws.{told-tells}
-use Rattle.drawing.specs.Fields.{objectId}
+use Rattle.drawing.specs.Fields.{objectFault, objectId}
 use Rattle.drawing.specs.String.{String}
 use Rattle.drawing.specs.Object.{Object, leaf, group, Objects, listOf, ofList}
 use Rattle.drawing.specs.ObjectId.{objectLetter, leafOf, groupOf}
@@ -21,13 +21,13 @@ pub list-of-list : (os : List Object) → listOf (ofList os) ≡ os
 list-of-list [] = refl
 list-of-list (o ∷ os) = ap {B = List Object} (λ l. o ∷ l) (list-of-list os)
 
--- What an allowed id says: a leaf's, or a group's where one may nest.
-id-of-leaf : (l g : Bool) → cond {A = ℕ} l 0 (cond g 10 7) ≡ 0 → l ≡ true
+-- What an allowed id says: it is a leaf's, or a group's where one may nest.
+id-of-leaf : (l g : Bool) → objectFault l g false ≡ 0 → l ≡ true
 id-of-leaf true g e = refl
 id-of-leaf false true e = absurd (omega arith)
 id-of-leaf false false e = absurd (omega arith)
 
-id-of-group : (g : Bool) → cond {A = ℕ} g 0 7 ≡ 0 → g ≡ true
+id-of-group : (g : Bool) → objectFault false g true ≡ 0 → g ≡ true
 id-of-group true e = refl
 id-of-group false e = absurd (omega arith)
 
@@ -38,7 +38,7 @@ leaf-letter v c (group os d) h g = absurd g
 pub leaf-tells : (v c : ℕ) (o : Object) → Allowed (objectId (isLeaf v) false) c → Made (leafBody v c .Good) (λ (l, d). leaf l d) o (leafOf o) → objectLetter o ≡ c
 leaf-tells v c o a g = leaf-letter v c o (id-of-leaf (isLeaf v c) (eqb c (code "G")) (a .faultless)) g
 
-group-letter : (P : Objects × String → Type 0) (c : ℕ) (o : Object) → cond {A = ℕ} (eqb c (code "G")) 0 7 ≡ 0 → Made P (λ (os, d). group os d) o (groupOf o) → objectLetter o ≡ c
+group-letter : (P : Objects × String → Type 0) (c : ℕ) (o : Object) → objectFault false (eqb c (code "G")) true ≡ 0 → Made P (λ (os, d). group os d) o (groupOf o) → objectLetter o ≡ c
 group-letter P c (leaf l d) e g = absurd g
 group-letter P c (group os d) e g = sym (eqb-true c (code "G") (id-of-group (eqb c (code "G")) e))
 
@@ -46,7 +46,7 @@ pub object-tells : (v : ℕ) (L : Layout (Objects × String)) (c : ℕ) (o : Obj
     → cond (isLeaf v c) (Made (leafBody v c .Good) (λ (l, d). leaf l d) o (leafOf o)) (Made (L .Good) (λ (os, d). group os d) o (groupOf o)) → objectLetter o ≡ c
 object-tells v L c o a g = by (isLeaf v c) refl (a .faultless) g
   where
-    by : (t : Bool) → isLeaf v c ≡ t → cond {A = ℕ} t 0 (cond (eqb c (code "G")) 0 7) ≡ 0
+    by : (t : Bool) → isLeaf v c ≡ t → objectFault t (eqb c (code "G")) true ≡ 0
         → cond t (Made (leafBody v c .Good) (λ (l, d). leaf l d) o (leafOf o)) (Made (L .Good) (λ (os, d). group os d) o (groupOf o)) → objectLetter o ≡ c
     by true h e g = leaf-letter v c o h g
     by false h e g = group-letter (L .Good) c o e g

@@ -6,7 +6,7 @@ use Prim.Native.Nat.{ℕ}
 use Prim.Native.Char.{code}
 use mathlib.Core.List.{List, [], _∷_, _++_, map}
 use lib.Dec.{leb}
-use Rattle.format.specs.Layout.{Layout, field, nothing, case, _&_}
+use Rattle.format.specs.Layout.{Layout, field, nothing, _&_}
 use Rattle.format.specs.Alternative.{Alternative}
 use Rattle.format.specs.Choice.{alternative, within}
 use Rattle.drawing.specs.Fields.{component, hue, integerIn}

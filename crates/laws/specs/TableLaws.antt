@@ -22,7 +22,7 @@ use Rattle.drawing.specs.String.{String}
 use Rattle.drawing.specs.Settings.{Settings, settings}
 use Rattle.drawing.specs.Object.{Objects, listOf}
 use Rattle.drawing.specs.ObjectLayout.{object, groupBody}
-use Rattle.drawing.specs.Drawing.{Drawing, outer, file, fileOf, Acceptable}
+use Rattle.drawing.specs.Drawing.{Drawing, outer, fileOf, Acceptable}
 use Rattle.laws.specs.FileGood.{Parts, file-parts, parts-file}
 use Rattle.drawing.specs.Table.{wordsOf, groupKind, groupOwn, groupWords, IsTable, rows, rowsAll, bodies, bodiesAll, row, contents, contentsAll, headWords, contentsOf, bodiesOf}
 use Rattle.drawing.specs.TableDrawing.{Place, Walk, met, lost, equal, nextRow, walkGroup, walkObject, tableHead, walkOuter, ended, wholeTable, behindHead, drawingOfTable}
