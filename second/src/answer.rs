@@ -1,0 +1,87 @@
+//! What the calls give back (01, 'Numbers given back'), shaped as the C interface has it.
+
+/// Every answer is a number, an offset, a row count and a word count.
+#[repr(C)]
+#[derive(Clone, Copy, Debug, Default, PartialEq, Eq)]
+pub struct Answer {
+    pub number: u32,
+    pub offset: u32,
+    pub rows: u32,
+    pub words: u32,
+}
+
+impl Answer {
+    pub fn new(number: u32, offset: u32, rows: u32, words: u32) -> Answer {
+        Answer { number, offset, rows, words }
+    }
+
+    /// A refusal whose counts are 0.
+    pub fn refused(number: u32, offset: u32) -> Answer {
+        Answer::new(number, offset, 0, 0)
+    }
+}
+
+/// A plain paint. Kind: 0 transparent, 1 RGB, 2 CMYK, 3 grey, 4 HSB; unused components are +0.
+#[repr(C)]
+#[derive(Clone, Copy, Debug, Default)]
+pub struct Color {
+    pub kind: u32,
+    pub c: [f32; 5],
+}
+
+/// The answer of the paint question. Form: 0 plain, 1 linear, 2 radial.
+#[repr(C)]
+#[derive(Clone, Copy, Debug, Default)]
+pub struct PaintAnswer {
+    pub number: u32,
+    pub form: u32,
+    pub place: u32,
+    pub first: Color,
+    pub second: Color,
+}
+
+/// The answer of the text question: places in the whole run of bodies.
+#[repr(C)]
+#[derive(Clone, Copy, Debug, Default, PartialEq, Eq)]
+pub struct TextAnswer {
+    pub number: u32,
+    pub alternative_start: u32,
+    pub alternative_length: u32,
+    pub text_start: u32,
+    pub text_length: u32,
+}
+
+impl PaintAnswer {
+    /// With a refusal the paint is transparent and all else 0.
+    pub fn refused(number: u32) -> PaintAnswer {
+        PaintAnswer { number, ..PaintAnswer::default() }
+    }
+
+    /// The struct's words in order, floats as their bits: -0 and 0 differ.
+    pub fn words(&self) -> [u32; 15] {
+        let mut words = [0; 15];
+        words[..3].copy_from_slice(&[self.number, self.form, self.place]);
+        words[3..9].copy_from_slice(&self.first.words());
+        words[9..].copy_from_slice(&self.second.words());
+        words
+    }
+}
+
+impl Color {
+    fn words(&self) -> [u32; 6] {
+        let [a, b, c, d, e] = self.c.map(f32::to_bits);
+        [self.kind, a, b, c, d, e]
+    }
+}
+
+impl TextAnswer {
+    /// With a refusal the places are 0.
+    pub fn refused(number: u32) -> TextAnswer {
+        TextAnswer { number, ..TextAnswer::default() }
+    }
+
+    /// The struct's words in order.
+    pub fn words(&self) -> [u32; 5] {
+        [self.number, self.alternative_start, self.alternative_length, self.text_start, self.text_length]
+    }
+}

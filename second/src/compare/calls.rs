@@ -1,0 +1,155 @@
+//! One comparison for each call: both answers, all that is handed back, and every lent element.
+
+use super::library;
+use super::report::{Call, Report};
+use super::runs::Run;
+use second::answer::Answer;
+use second::check::{self, Good};
+use second::random::Random;
+use second::table::{self, Table};
+use second::{ask, list, write};
+
+/// Compares calls and keeps count.
+pub struct Comparer {
+    pub random: Random,
+    pub report: Report,
+}
+
+/// A table that is asked about: its runs as lent, their copies, and what this program makes of it.
+pub struct Asked {
+    pub table: Table,
+    pub good: Option<Good>,
+    contents: Run<u32>,
+    bodies: Run<u32>,
+    contents_before: Run<u32>,
+    bodies_before: Run<u32>,
+}
+
+impl Asked {
+    pub fn new(random: &mut Random, table: Table) -> Asked {
+        let good = check::good(&table.contents, &table.bodies);
+        let contents = Run::holding(random, &table.contents, 0xC0C0_C0C0);
+        let bodies = Run::holding(random, &table.bodies, 0xB0B0_B0B0);
+        let (contents_before, bodies_before) = (contents.clone(), bodies.clone());
+        Asked { table, good, contents, bodies, contents_before, bodies_before }
+    }
+
+    /// Where a call has changed what was lent for reading only; put right for the next call.
+    fn changed(&mut self) -> Vec<(&'static str, Option<isize>)> {
+        let contents = self.contents.first_difference(&self.contents_before);
+        let bodies = self.bodies.first_difference(&self.bodies_before);
+        if contents.is_some() || bodies.is_some() {
+            self.contents = self.contents_before.clone();
+            self.bodies = self.bodies_before.clone();
+        }
+        vec![("contents", contents), ("bodies", bodies)]
+    }
+}
+
+/// The four numbers of an answer.
+fn words(answer: Answer) -> Vec<u32> {
+    vec![answer.number, answer.offset, answer.rows, answer.words]
+}
+
+impl Comparer {
+    /// What lent memory holds before a call.
+    fn fill(&mut self) -> u32 {
+        self.random.word()
+    }
+
+    /// Rooms in words. Gives this program's answer.
+    pub fn read(&mut self, file: &[u8], contents_room: usize, bodies_room: usize) -> Answer {
+        let fill = self.fill();
+        let random = &mut self.random;
+        let given = Run::holding(random, file, fill as u8);
+        let given_before = given.clone();
+        let mut contents = Run::filled(random, contents_room, fill);
+        let mut bodies = Run::filled(random, bodies_room, !fill);
+        let (mut our_contents, mut our_bodies) = (contents.clone(), bodies.clone());
+        let ours = table::read_call(file, our_contents.inner_mut(), our_bodies.inner_mut());
+        let theirs = library::read(given.given(), contents.lent(), bodies.lent());
+        let memory = vec![
+            ("file", given.first_difference(&given_before)),
+            ("contents", contents.first_difference(&our_contents)),
+            ("bodies", bodies.first_difference(&our_bodies)),
+        ];
+        let detail = || format!("rooms of {contents_room} and {bodies_room} words");
+        self.report.compared(Call::Read, &words(ours), &words(theirs), memory, detail, || file.to_vec());
+        ours
+    }
+
+    pub fn check(&mut self, asked: &mut Asked) {
+        let ours = check::call(asked.good.as_ref());
+        let theirs = library::check(asked.contents.given(), asked.bodies.given());
+        let memory = asked.changed();
+        let data = || table_data(&asked.table);
+        self.report.compared(Call::Check, &words(ours), &words(theirs), memory, String::new, data);
+    }
+
+    /// Room in bytes. Gives this program's answer.
+    pub fn write(&mut self, asked: &mut Asked, room: usize) -> Answer {
+        let fill = self.fill() as u8;
+        let mut output = Run::filled(&mut self.random, room, fill);
+        let mut our_output = output.clone();
+        let ours = write::call(asked.good.as_ref(), our_output.inner_mut());
+        let theirs = library::write(asked.contents.given(), asked.bodies.given(), output.lent());
+        let mut memory = asked.changed();
+        memory.push(("output", output.first_difference(&our_output)));
+        let detail = || format!("room of {room} bytes");
+        let data = || table_data(&asked.table);
+        self.report.compared(Call::Write, &words(ours), &words(theirs), memory, detail, data);
+        ours
+    }
+
+    /// Room in entries. Gives this program's answer.
+    pub fn list(&mut self, asked: &mut Asked, label: &[u16], room: usize) -> Answer {
+        let fill = self.fill();
+        let given = Run::holding(&mut self.random, label, fill as u16);
+        let given_before = given.clone();
+        let mut entries = Run::filled(&mut self.random, room, fill);
+        let mut our_entries = entries.clone();
+        let ours = list::call(asked.good.as_ref(), label, our_entries.inner_mut());
+        let runs = (asked.contents.given(), asked.bodies.given());
+        let theirs = library::list(runs.0, runs.1, given.given(), entries.lent());
+        let mut memory = asked.changed();
+        memory.push(("label", given.first_difference(&given_before)));
+        memory.push(("entries", entries.first_difference(&our_entries)));
+        let detail = || format!("room of {room} entries, label {label:04x?}");
+        let data = || list_data(&asked.table, label);
+        self.report.compared(Call::List, &words(ours), &words(theirs), memory, detail, data);
+        ours
+    }
+
+    pub fn paint(&mut self, asked: &mut Asked, row: u32, which: u32) {
+        let ours = ask::paint(asked.good.as_ref(), row, which);
+        let theirs = library::paint(asked.contents.given(), asked.bodies.given(), row, which);
+        let memory = asked.changed();
+        let detail = || format!("row {row}, which {which}");
+        let data = || table_data(&asked.table);
+        self.report.compared(Call::Paint, &ours.words(), &theirs.words(), memory, detail, data);
+    }
+
+    pub fn text(&mut self, asked: &mut Asked, row: u32) {
+        let ours = ask::text(asked.good.as_ref(), row);
+        let theirs = library::text(asked.contents.given(), asked.bodies.given(), row);
+        let memory = asked.changed();
+        let detail = || format!("row {row}");
+        let data = || table_data(&asked.table);
+        self.report.compared(Call::Text, &ours.words(), &theirs.words(), memory, detail, data);
+    }
+}
+
+/// A table as `make-table` writes it.
+fn table_data(table: &Table) -> Vec<u8> {
+    let length = table.contents.len() as u32;
+    let words = [length].into_iter().chain(table.contents.iter().chain(&table.bodies).copied());
+    words.flat_map(u32::to_be_bytes).collect()
+}
+
+/// A table and a label as `make-list` writes them.
+fn list_data(table: &Table, label: &[u16]) -> Vec<u8> {
+    let lengths = [table.contents.len(), table.bodies.len(), label.len()].map(|length| length as u32);
+    let runs = table.contents.iter().chain(&table.bodies).copied();
+    let words = lengths.into_iter().chain(runs).chain(label.iter().copied().map(u32::from));
+    words.flat_map(u32::to_be_bytes).collect()
+}

@@ -1,0 +1,85 @@
+//! The linked library: the C functions of the interface.
+
+use second::answer::{Answer, PaintAnswer, TextAnswer};
+
+#[link(name = "jdr_c", kind = "static")]
+extern "C" {
+    fn jdr_read(
+        file: *const u8,
+        file_len: usize,
+        contents: *mut u32,
+        contents_len: usize,
+        bodies: *mut u32,
+        bodies_len: usize,
+    ) -> Answer;
+
+    fn jdr_check(contents: *const u32, contents_len: usize, bodies: *const u32, bodies_len: usize) -> Answer;
+
+    fn jdr_write(
+        contents: *const u32,
+        contents_len: usize,
+        bodies: *const u32,
+        bodies_len: usize,
+        file: *mut u8,
+        file_len: usize,
+    ) -> Answer;
+
+    fn jdr_list(
+        contents: *const u32,
+        contents_len: usize,
+        bodies: *const u32,
+        bodies_len: usize,
+        label: *const u16,
+        label_len: usize,
+        entries: *mut u32,
+        entries_len: usize,
+    ) -> Answer;
+
+    fn jdr_paint(
+        contents: *const u32,
+        contents_len: usize,
+        bodies: *const u32,
+        bodies_len: usize,
+        row: u32,
+        which: u32,
+    ) -> PaintAnswer;
+
+    fn jdr_text(
+        contents: *const u32,
+        contents_len: usize,
+        bodies: *const u32,
+        bodies_len: usize,
+        row: u32,
+    ) -> TextAnswer;
+}
+
+/// A run that is lent for reading: a pointer and a length in elements.
+pub type Given<T> = (*const T, usize);
+/// A run that is lent for writing.
+pub type Lent<T> = (*mut T, usize);
+
+pub fn read(file: Given<u8>, contents: Lent<u32>, bodies: Lent<u32>) -> Answer {
+    // Safety, here and below: each pointer comes from a run of that length that outlives the call,
+    // and runs lent for writing overlap no other. Only an empty run may have any pointer.
+    unsafe { jdr_read(file.0, file.1, contents.0, contents.1, bodies.0, bodies.1) }
+}
+
+pub fn check(contents: Given<u32>, bodies: Given<u32>) -> Answer {
+    unsafe { jdr_check(contents.0, contents.1, bodies.0, bodies.1) }
+}
+
+pub fn write(contents: Given<u32>, bodies: Given<u32>, file: Lent<u8>) -> Answer {
+    unsafe { jdr_write(contents.0, contents.1, bodies.0, bodies.1, file.0, file.1) }
+}
+
+pub fn list(contents: Given<u32>, bodies: Given<u32>, label: Given<u16>, entries: Lent<u32>) -> Answer {
+    unsafe { jdr_list(contents.0, contents.1, bodies.0, bodies.1, label.0, label.1, entries.0, entries.1) }
+}
+
+pub fn paint(contents: Given<u32>, bodies: Given<u32>, row: u32, which: u32) -> PaintAnswer {
+    unsafe { jdr_paint(contents.0, contents.1, bodies.0, bodies.1, row, which) }
+}
+
+pub fn text(contents: Given<u32>, bodies: Given<u32>, row: u32) -> TextAnswer {
+    unsafe { jdr_text(contents.0, contents.1, bodies.0, bodies.1, row) }
+}

@@ -1,0 +1,110 @@
+//! Counts of what was compared, and what is written down about a disagreement.
+
+use std::collections::BTreeMap;
+use std::path::PathBuf;
+use std::time::Duration;
+
+#[derive(Clone, Copy, PartialEq, Eq, PartialOrd, Ord)]
+pub enum Call {
+    Read,
+    Check,
+    Write,
+    List,
+    Paint,
+    Text,
+}
+
+impl Call {
+    const ALL: [Call; 6] = [Call::Read, Call::Check, Call::Write, Call::List, Call::Paint, Call::Text];
+
+    fn name(self) -> &'static str {
+        match self {
+            Call::Read => "read",
+            Call::Check => "check",
+            Call::Write => "write",
+            Call::List => "list",
+            Call::Paint => "paint",
+            Call::Text => "text",
+        }
+    }
+}
+
+/// Inputs are written down only so often; after that disagreements are counted.
+const WRITTEN_AT_MOST: u64 = 50;
+
+pub struct Report {
+    folder: PathBuf,
+    /// The seed of the round under way.
+    pub seed: u64,
+    counts: BTreeMap<(Call, u32), u64>,
+    pub disagreements: u64,
+}
+
+impl Report {
+    pub fn new(folder: PathBuf) -> Report {
+        Report { folder, seed: 0, counts: BTreeMap::new(), disagreements: 0 }
+    }
+
+    /// One call: the words of both answers, and where lent memory differs from what it has to be.
+    pub fn compared(
+        &mut self,
+        call: Call,
+        ours: &[u32],
+        theirs: &[u32],
+        memory: Vec<(&'static str, Option<isize>)>,
+        detail: impl Fn() -> String,
+        data: impl Fn() -> Vec<u8>,
+    ) {
+        *self.counts.entry((call, ours[0])).or_insert(0) += 1;
+        let places: Vec<String> = memory.into_iter().filter_map(difference).collect();
+        if ours == theirs && places.is_empty() {
+            return;
+        }
+        self.disagreements += 1;
+        if self.disagreements <= WRITTEN_AT_MOST {
+            self.write_down(call, &data());
+            println!("  {}", detail());
+            println!("  second:  {}", joined(ours));
+            println!("  library: {}", joined(theirs));
+            places.iter().for_each(|place| println!("  {place}"));
+        }
+    }
+
+    fn write_down(&self, call: Call, data: &[u8]) {
+        let name = format!("disagreement-{:04}-{}", self.disagreements, call.name());
+        let path = self.folder.join(name);
+        println!("{} (round of seed {}): {}", call.name(), self.seed, path.display());
+        if let Err(error) = std::fs::write(&path, data) {
+            println!("  not written: {error}");
+        }
+    }
+
+    fn count(&self, call: Call) -> u64 {
+        self.counts.iter().filter(|((of, _), _)| *of == call).map(|(_, count)| count).sum()
+    }
+
+    pub fn print_totals(&self, rounds: u64, taken: Duration) {
+        for call in Call::ALL {
+            let numbers = self.counts.iter().filter(|((of, _), _)| *of == call);
+            let each: Vec<String> =
+                numbers.map(|((_, number), count)| format!("{number}: {count}")).collect();
+            println!("{:5} {:10}   {}", call.name(), self.count(call), each.join(", "));
+        }
+        let total: u64 = self.counts.values().sum();
+        let seconds = taken.as_secs_f64();
+        println!(
+            "{total} calls in {rounds} rounds and {seconds:.1} s: {:.0} a second",
+            total as f64 / seconds
+        );
+        println!("{} disagreements", self.disagreements);
+    }
+}
+
+fn difference((name, place): (&'static str, Option<isize>)) -> Option<String> {
+    place.map(|place| format!("lent memory differs: {name}[{place}]"))
+}
+
+fn joined(words: &[u32]) -> String {
+    let words: Vec<String> = words.iter().map(u32::to_string).collect();
+    words.join(" ")
+}

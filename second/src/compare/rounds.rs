@@ -1,0 +1,255 @@
+//! What one round asks: a drawing, its file and table, and many damaged ones.
+
+use super::calls::{Asked, Comparer};
+use second::answer::Answer;
+use second::damage::fields::{of_bodies, of_file, Field};
+use second::damage::{files, tables};
+use second::generate::special::{of_depth, padded, sampler, with_chains};
+use second::generate::{self, all_labels, chars};
+use second::model::{Chars, Drawing};
+use second::random::Random;
+use second::table::{self, Table};
+use second::version::Version;
+use second::{list, read, write};
+
+/// What the calls of a round are made from. The drawing may be over a limit.
+struct Round {
+    drawing: Drawing,
+    file: Vec<u8>,
+    table: Table,
+    file_fields: Vec<Field>,
+    body_fields: Vec<Field>,
+}
+
+pub fn round(comparer: &mut Comparer, seed: u64) {
+    comparer.random = Random::new(seed);
+    comparer.report.seed = seed;
+    let drawing = some_drawing(&mut comparer.random);
+    let round = Round {
+        file: write::file(&drawing),
+        table: table::of(&drawing),
+        file_fields: of_file(&drawing),
+        body_fields: of_bodies(&drawing),
+        drawing,
+    };
+    read_in_rooms(comparer, &round.file, &round.table);
+    read_damaged(comparer, &round);
+    ask_about(comparer, &round);
+    ask_damaged(comparer, &round);
+}
+
+/// Most drawings are small; some are at a limit or just over it.
+fn some_drawing(random: &mut Random) -> Drawing {
+    let seed = random.bits();
+    let version = *random.pick(&Version::ALL);
+    match random.below(200) {
+        0..=5 => sampler(seed, version),
+        6..=12 => of_depth(version, random.within(14, 18) as u32, &chars("deep")),
+        13..=22 if version.has_chains() => {
+            let lengths = [(); 3].map(|()| random.within(0, 6));
+            with_chains(seed, version, lengths)
+        }
+        23 => {
+            let size = *random.pick(&[100, 20_000, 64_000]);
+            padded(generate::drawing(seed, version, size), random.within(65_532, 65_538))
+        }
+        24..=26 => generate::drawing(seed, version, 15_000),
+        27..=50 => generate::drawing(seed, version, 2_000),
+        _ => generate::drawing(seed, version, random.within(1, 400)),
+    }
+}
+
+/// How often to do what costs time in step with the size.
+fn times(size: usize, small: usize) -> usize {
+    (small * 400 / (400 + size)).max(1)
+}
+
+/// Exact rooms, one short, larger, none.
+fn read_in_rooms(comparer: &mut Comparer, file: &[u8], table: &Table) {
+    let (contents, bodies) = (table.contents.len(), table.bodies.len());
+    let more = comparer.random.within(1, 9);
+    comparer.read(file, contents, bodies);
+    comparer.read(file, contents + more, bodies + more);
+    comparer.read(file, contents - 1, bodies);
+    comparer.read(file, contents, bodies - 1);
+    comparer.read(file, contents - 1, bodies - 1);
+    comparer.read(file, 0, bodies);
+    comparer.read(file, contents, 0);
+    comparer.read(file, 0, 0);
+    let (some_contents, some_bodies) =
+        (comparer.random.within(0, contents), comparer.random.within(0, bodies));
+    comparer.read(file, some_contents, some_bodies);
+}
+
+fn read_damaged(comparer: &mut Comparer, round: &Round) {
+    let (contents, bodies) = (round.table.contents.len(), round.table.bodies.len());
+    for _ in 0..times(round.file.len(), 40) {
+        let damaged = files::any(&mut comparer.random, &round.file, &round.file_fields);
+        let answer = comparer.read(&damaged, contents + 40, bodies + 200);
+        if answer.number == 0 && comparer.random.once_in(3) {
+            accepted(comparer, &damaged);
+        }
+    }
+    if round.file.len() < 500 && comparer.random.once_in(30) {
+        every_cut(comparer, round);
+        every_byte(comparer, round);
+    }
+    if comparer.random.once_in(300) {
+        let long = files::too_long(&mut comparer.random, &round.file);
+        comparer.read(&long, contents, bodies);
+    }
+}
+
+/// A damaged file that is good all the same: its table is good too.
+fn accepted(comparer: &mut Comparer, file: &[u8]) {
+    if let Ok(drawing) = read::drawing(file) {
+        let mut asked = Asked::new(&mut comparer.random, table::of(&drawing));
+        comparer.check(&mut asked);
+        comparer.write(&mut asked, file.len());
+    }
+}
+
+fn every_cut(comparer: &mut Comparer, round: &Round) {
+    for kept in 0..round.file.len() {
+        comparer.read(&round.file[..kept], round.table.contents.len(), round.table.bodies.len());
+    }
+}
+
+/// Each byte changed once, each in its place.
+fn every_byte(comparer: &mut Comparer, round: &Round) {
+    let (contents, bodies) = (round.table.contents.len() + 8, round.table.bodies.len() + 80);
+    let mut file = round.file.clone();
+    for place in 0..file.len() {
+        let old = file[place];
+        file[place] = match comparer.random.below(3) {
+            0 => old.wrapping_add(1),
+            1 => old.wrapping_sub(1),
+            _ => old ^ 1 << comparer.random.below(8),
+        };
+        comparer.read(&file, contents, bodies);
+        file[place] = old;
+    }
+}
+
+/// All calls about the drawing's own table.
+fn ask_about(comparer: &mut Comparer, round: &Round) {
+    let mut asked = Asked::new(&mut comparer.random, round.table.clone());
+    comparer.check(&mut asked);
+    write_in_rooms(comparer, &mut asked, round.file.len());
+    for _ in 0..times(round.file.len(), 6) {
+        let label = some_label(&mut comparer.random, &round.drawing);
+        list_in_rooms(comparer, &mut asked, &label);
+    }
+    let rows = round.table.rows();
+    for _ in 0..times(round.file.len(), 12) {
+        let row = some_row(&mut comparer.random, rows);
+        questions(comparer, &mut asked, row);
+    }
+}
+
+fn write_in_rooms(comparer: &mut Comparer, asked: &mut Asked, length: usize) {
+    let more = comparer.random.within(1, 40);
+    let some = comparer.random.within(0, length);
+    for room in [length, length - 1, length + more, 0, some] {
+        comparer.write(asked, room);
+    }
+}
+
+/// The label with a large room; then exactly, and one short.
+fn list_in_rooms(comparer: &mut Comparer, asked: &mut Asked, label: &[u16]) {
+    let room = asked.table.rows() as usize + comparer.random.within(0, 5);
+    let Answer { number, rows, .. } = comparer.list(asked, label, room);
+    if number == 0 {
+        let count = rows as usize;
+        comparer.list(asked, label, count);
+        comparer.list(asked, label, count.saturating_sub(1));
+        comparer.list(asked, label, 0);
+    }
+}
+
+/// A description of the drawing, one char more or less or other than it, or some other label.
+fn some_label(random: &mut Random, drawing: &Drawing) -> Chars {
+    let objects = list::opened(drawing);
+    let mut label = random.pick(&objects).description.to_vec();
+    match random.below(8) {
+        0 => label.push(random.word() as u16),
+        1 => {
+            label.pop();
+        }
+        2 if !label.is_empty() => {
+            let place = random.below(label.len());
+            label[place] ^= 1 << random.below(16);
+        }
+        3 => label = random.pick(&all_labels()).clone(),
+        4 => label.extend_from_within(..),
+        5 if random.once_in(50) => label.resize(70_000, 0x6D),
+        _ => {}
+    }
+    label
+}
+
+/// A row of the table, or one past its end.
+fn some_row(random: &mut Random, rows: u32) -> u32 {
+    match random.below(12) {
+        0 => rows,
+        1 => *random.pick(&[rows.wrapping_add(1), u32::MAX, 0x4000_0000, 0x8000_0000]),
+        _ => random.below(rows.max(1) as usize) as u32,
+    }
+}
+
+fn questions(comparer: &mut Comparer, asked: &mut Asked, row: u32) {
+    for which in [0, 1, 2] {
+        comparer.paint(asked, row, which);
+    }
+    if comparer.random.once_in(4) {
+        let which = *comparer.random.pick(&[3, 4, 255, 256, u32::MAX]);
+        comparer.paint(asked, row, which);
+    }
+    comparer.text(asked, row);
+}
+
+/// Damaged tables; now and then some other call than the check as well.
+fn ask_damaged(comparer: &mut Comparer, round: &Round) {
+    for _ in 0..times(round.file.len(), 24) {
+        let damaged = tables::any(&mut comparer.random, &round.table, &round.body_fields);
+        let rows = damaged.rows();
+        let mut asked = Asked::new(&mut comparer.random, damaged);
+        comparer.check(&mut asked);
+        let room = comparer.random.within(0, round.file.len() + 40);
+        match comparer.random.below(6) {
+            0 => {
+                comparer.write(&mut asked, round.file.len() + 40);
+            }
+            1 => {
+                comparer.write(&mut asked, room);
+            }
+            2 => {
+                let label = some_label(&mut comparer.random, &round.drawing);
+                comparer.list(&mut asked, &label, rows as usize);
+            }
+            3 => {
+                let row = some_row(&mut comparer.random, rows);
+                comparer.paint(&mut asked, row, 1);
+            }
+            4 => {
+                let row = some_row(&mut comparer.random, rows);
+                comparer.text(&mut asked, row);
+            }
+            _ => {}
+        }
+    }
+    if comparer.random.once_in(300) {
+        let groups = *comparer.random.pick(&[1, 15, 16, 17, 18, 200, 9_000, 30_000]);
+        ask_all(comparer, tables::deep(groups));
+        ask_all(comparer, tables::far_too_long(&round.table, groups as usize));
+    }
+}
+
+/// Each call once about a table that is out of the ordinary.
+fn ask_all(comparer: &mut Comparer, table: Table) {
+    let mut asked = Asked::new(&mut comparer.random, table);
+    comparer.check(&mut asked);
+    comparer.write(&mut asked, 66_000);
+    comparer.list(&mut asked, &[], 10);
+    questions(comparer, &mut asked, 1);
+}

@@ -1,0 +1,21 @@
+//! A second reading of the papers, written from them alone: the plainest program that gives the
+//! answers of document 01, to be compared with the library.
+//!
+//! `01` in a comment is document 01-scope.md, `readings` is readings.md, `000` the source document.
+
+pub mod answer;
+pub mod ask;
+pub mod check;
+pub mod damage;
+pub mod generate;
+pub mod layout;
+pub mod list;
+pub mod lister;
+pub mod make;
+pub mod model;
+pub mod plans;
+pub mod random;
+pub mod read;
+pub mod table;
+pub mod version;
+pub mod write;

@@ -1,0 +1,82 @@
+//! The commands.
+
+#[cfg(feature = "linked")]
+mod compare;
+
+use second::make::{self, Case};
+use second::{lister, read, table};
+use std::fs;
+use std::path::Path;
+use std::process::ExitCode;
+
+const USAGE: &str = "\
+second read FILE                         the answer, and the lister's lines of an accepted file
+second make-read DIR [SEED]              cases of the read call
+second make-table DIR [SEED]             cases of the check and write calls
+second make-list DIR [SEED]              cases of the list call and the questions
+second compare [--seconds N] [--seed S] [--out DIR] [--trace FILE]
+                                         compares the linked library (built with --features linked)";
+
+fn main() -> ExitCode {
+    let arguments: Vec<String> = std::env::args().skip(1).collect();
+    let words: Vec<&str> = arguments.iter().map(String::as_str).collect();
+    let done = match words[..] {
+        ["read", file] => read_file(file),
+        ["make-read", folder, ref seed @ ..] => make_cases(folder, seed, make::reads::cases),
+        ["make-table", folder, ref seed @ ..] => make_cases(folder, seed, make::tables::cases),
+        ["make-list", folder, ref seed @ ..] => make_cases(folder, seed, make::lists::cases),
+        ["compare", ref options @ ..] => compare(options),
+        _ => Err(USAGE.to_string()),
+    };
+    match done {
+        Ok(code) => code,
+        Err(message) => {
+            eprintln!("{message}");
+            ExitCode::from(2)
+        }
+    }
+}
+
+/// The answer with rooms large enough, then the lister's lines.
+fn read_file(name: &str) -> Result<ExitCode, String> {
+    let file = fs::read(name).map_err(|error| format!("{name}: {error}"))?;
+    match read::drawing(&file) {
+        Err(refusal) => println!("{} {} 0 0", refusal.number, refusal.offset),
+        Ok(drawing) => {
+            let table = table::of(&drawing);
+            println!("0 {} {} {}", file.len(), table.rows(), table.words());
+            print!("{}", lister::lines(&table));
+        }
+    }
+    Ok(ExitCode::SUCCESS)
+}
+
+fn make_cases(folder: &str, seed: &[&str], cases: fn(u64) -> Vec<Case>) -> Result<ExitCode, String> {
+    let seed = match seed {
+        [] => 1,
+        [seed] => number(seed)?,
+        _ => return Err(USAGE.to_string()),
+    };
+    let cases = cases(seed);
+    make::write(Path::new(folder), &cases).map_err(|error| format!("{folder}: {error}"))?;
+    let bytes: usize = cases.iter().map(|case| case.data.len()).sum();
+    println!("{} cases, {bytes} bytes; first number and how often:", cases.len());
+    for (number, count) in make::first_numbers(&cases) {
+        println!("  {number}: {count}");
+    }
+    Ok(ExitCode::SUCCESS)
+}
+
+fn number(word: &str) -> Result<u64, String> {
+    word.parse().map_err(|_| format!("no number: {word}"))
+}
+
+#[cfg(feature = "linked")]
+fn compare(options: &[&str]) -> Result<ExitCode, String> {
+    compare::run(compare::Options::parse(options)?)
+}
+
+#[cfg(not(feature = "linked"))]
+fn compare(_options: &[&str]) -> Result<ExitCode, String> {
+    Err("this program was built without the library: see --features linked".to_string())
+}

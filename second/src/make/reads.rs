@@ -1,0 +1,127 @@
+//! Cases of the read call.
+
+use super::{broken, hash, Case, FILL};
+use crate::answer::Answer;
+use crate::damage::files;
+use crate::generate::special::{of_depth, padded, plain_bitmap, plain_drawing, sampler, with_chains};
+use crate::generate::{self, chars, Maker};
+use crate::model::{Drawing, Object, Paper, Settings};
+use crate::plans;
+use crate::random::Random;
+use crate::table::read_call;
+use crate::version::{Version, LONGEST_FILE};
+use crate::write;
+
+type Files = Vec<(String, Vec<u8>)>;
+
+pub fn cases(seed: u64) -> Vec<Case> {
+    let mut files = Files::new();
+    marked(&mut files);
+    run_only(&mut files, seed);
+    limits(&mut files, seed);
+    good(&mut files, seed);
+    broken::add(&mut files, seed);
+    noise(&mut files, seed);
+    files.into_iter().map(|(name, data)| Case { name, groups: groups(&data), data }).collect()
+}
+
+/// The line's groups: with large rooms, then exact ones, then one row short, then one word short.
+fn groups(file: &[u8]) -> Vec<String> {
+    let (answer, first) = group(file, 37_452, 65_536);
+    let mut groups = vec![first];
+    if answer.number == 0 {
+        let (contents, bodies) = (4 * answer.rows as usize, answer.words as usize);
+        let rooms = [(contents + 3, bodies), (contents - 1, bodies), (contents, bodies - 1)];
+        groups.extend(rooms.map(|(contents, bodies)| group(file, contents, bodies).1));
+    }
+    groups
+}
+
+/// One call with rooms of so many words.
+fn group(file: &[u8], contents: usize, bodies: usize) -> (Answer, String) {
+    let mut contents = vec![FILL; contents];
+    let mut bodies = vec![FILL; bodies];
+    let answer = read_call(file, &mut contents, &mut bodies);
+    let Answer { number, offset, rows, words } = answer;
+    let (of_contents, of_bodies) = (hash(contents), hash(bodies));
+    (answer, format!("{number} {offset} {rows} {words} {of_contents:08x} {of_bodies:08x}"))
+}
+
+fn add(files: &mut Files, name: &str, version: Version, drawing: &Drawing) {
+    files.push((format!("1.{}: {name}", version.minor()), write::file(drawing)));
+}
+
+fn marked(files: &mut Files) {
+    for plan in plans::marked() {
+        files.push((plan.name.to_string(), plan.file));
+    }
+    files.push(("plan A and 9 more bytes".into(), files::longer(&plans::plan_a(), &[0; 9])));
+}
+
+/// 01's cases that are run only: depth 16 and 17, 4 and 5 markers (hue 360 and settings 3 are faults).
+fn run_only(files: &mut Files, seed: u64) {
+    let [v0, v1, v2, v3, v4] = Version::ALL;
+    for (version, depth) in [(v0, 16), (v0, 17), (v2, 17), (v4, 16), (v4, 17)] {
+        let drawing = of_depth(version, depth, &chars("deep"));
+        add(files, &format!("depth {depth}"), version, &drawing);
+    }
+    for version in [v1, v4] {
+        add(files, "4 markers in each chain", version, &with_chains(seed, version, [4, 4, 4]));
+    }
+    for (version, lengths) in [(v1, [5, 0, 0]), (v2, [4, 5, 1]), (v3, [0, 0, 5]), (v4, [4, 4, 5])] {
+        let drawing = with_chains(seed, version, lengths);
+        add(files, &format!("chains of {lengths:?} markers"), version, &drawing);
+    }
+}
+
+fn limits(files: &mut Files, seed: u64) {
+    let [v0, .., v4] = Version::ALL;
+    let small = plain_drawing(v0, vec![Object::Bitmap(plain_bitmap(1))]);
+    let large = generate::drawing(seed, v4, 64_000);
+    add(files, "exactly 65,535 bytes, mostly a name", v0, &padded(small.clone(), LONGEST_FILE));
+    add(files, "exactly 65,535 bytes, many objects", v4, &padded(large, LONGEST_FILE));
+    add(files, "65,536 bytes of a good layout", v0, &padded(small, LONGEST_FILE + 1));
+    let mut filled = plans::plan_a();
+    filled.resize(LONGEST_FILE + 1, 0);
+    files.push(("65,536 bytes, plan A and zeros".into(), filled));
+    files.push(("70,000 zeros".into(), vec![0; 70_000]));
+}
+
+/// Every kind of part in every version, and drawings of all sorts.
+fn good(files: &mut Files, seed: u64) {
+    for version in Version::ALL {
+        add(files, "every kind of part", version, &sampler(seed, version));
+        let drawing = generate::drawing(seed + 1, version, 900);
+        add(files, "some drawing", version, &drawing);
+    }
+    let bits = plain_nan_drawing();
+    add(files, "NaN payloads in every free double", bits.version, &bits);
+    let [.., v3, v4] = Version::ALL;
+    for (version, paper) in [(v3, Maker::new(seed, v3).own_paper()), (v4, Paper { id: 72, own: None })] {
+        let mut drawing = plain_drawing(version, vec![Object::Bitmap(plain_bitmap(1))]);
+        drawing.settings = Settings::PaperOnly(paper);
+        add(files, "paper only", version, &drawing);
+    }
+}
+
+/// Quiet and signalling NaNs, and -0, where nothing but the bits tells them apart.
+fn plain_nan_drawing() -> Drawing {
+    let mut bitmap = plain_bitmap(1);
+    bitmap.transformation = [
+        0x7FF0_0000_0000_0001,
+        0xFFF0_0000_0000_0001,
+        0x7FF8_0000_DEAD_BEEF,
+        0xFFFF_FFFF_FFFF_FFFF,
+        0x7FF4_0000_0000_0000,
+        0x8000_0000_0000_0000,
+    ];
+    plain_drawing(Version::ALL[1], vec![Object::Bitmap(bitmap)])
+}
+
+fn noise(files: &mut Files, seed: u64) {
+    let mut random = Random::new(seed);
+    files.push(("200 random bytes".into(), files::random_bytes(&mut random, 200)));
+    let head = plans::plan_a()[..16].to_vec();
+    let noise = files::random_bytes(&mut random, 300);
+    files.push(("a good head and 300 random bytes".into(), files::longer(&head, &noise)));
+}

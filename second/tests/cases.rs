@@ -1,0 +1,70 @@
+//! The folders of cases: what each holds, and that a seed always gives the same.
+
+use second::make::{first_numbers, lists, reads, tables, Case};
+
+fn bytes(cases: &[Case]) -> usize {
+    cases.iter().map(|case| case.data.len()).sum()
+}
+
+/// The first number of a case's line.
+fn number(case: &Case) -> &str {
+    case.groups[0].split(' ').next().unwrap_or("")
+}
+
+#[test]
+fn every_number_of_the_reader_occurs_at_several_places() {
+    for seed in [1, 2, 77] {
+        let cases = reads::cases(seed);
+        let numbers = first_numbers(&cases);
+        assert_eq!(
+            numbers.iter().map(|(number, _)| *number).collect::<Vec<_>>(),
+            (0..=13).collect::<Vec<_>>()
+        );
+        assert!(numbers.iter().all(|(_, count)| *count >= 3), "{numbers:?}");
+        assert!(cases.len() <= 150 && bytes(&cases) < 1_500_000);
+    }
+}
+
+#[test]
+fn a_case_that_names_its_number_has_it() {
+    for case in reads::cases(1) {
+        let mut parts = case.name.split(": ");
+        let named = parts.find(|part| part.parse::<u32>().is_ok());
+        if let Some(named) = named {
+            assert_eq!(named, number(&case), "{}", case.name);
+        }
+    }
+}
+
+#[test]
+fn accepted_files_have_four_groups_and_refused_ones_one() {
+    for case in reads::cases(1) {
+        let firsts: Vec<&str> = case.groups.iter().filter_map(|group| group.split(' ').next()).collect();
+        if firsts[0] == "0" {
+            assert_eq!(firsts, ["0", "0", "14", "15"]);
+        } else {
+            assert_eq!(firsts.len(), 1);
+        }
+    }
+}
+
+#[test]
+fn tables_and_lists_hold_good_and_bad_ones() {
+    for cases in [tables::cases(1), lists::cases(1)] {
+        let numbers = first_numbers(&cases);
+        assert_eq!(numbers.iter().map(|(number, _)| *number).collect::<Vec<_>>(), [0, 16]);
+        assert!(numbers.iter().all(|(_, count)| *count >= 20), "{numbers:?}");
+        assert!(cases.len() <= 150 && bytes(&cases) < 1_500_000);
+    }
+}
+
+#[test]
+fn a_seed_gives_the_same_cases_again() {
+    for make in [reads::cases, tables::cases, lists::cases] {
+        let (one, two) = (make(9), make(9));
+        assert_eq!(one.len(), two.len());
+        for (one, two) in one.iter().zip(&two) {
+            assert!(one.data == two.data && one.groups == two.groups && one.name == two.name);
+        }
+    }
+}

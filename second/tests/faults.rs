@@ -1,0 +1,67 @@
+//! Every cut and every fault at every field gives its number at that field's offset.
+
+use second::damage::faults::faults;
+use second::damage::fields::of_file;
+use second::damage::files::put;
+use second::generate;
+use second::generate::special::sampler;
+use second::model::Drawing;
+use second::read::{self, Refusal};
+use second::version::Version;
+use second::write;
+use std::collections::BTreeMap;
+
+fn drawings() -> Vec<Drawing> {
+    let mut all: Vec<Drawing> = Version::ALL.iter().map(|version| sampler(5, *version)).collect();
+    for seed in 0..10 {
+        all.extend(Version::ALL.iter().map(|version| generate::drawing(seed, *version, 600)));
+    }
+    all
+}
+
+#[test]
+fn every_cut_is_2_at_the_field_that_it_cuts() {
+    for drawing in drawings() {
+        let file = write::file(&drawing);
+        for field in of_file(&drawing) {
+            for kept in field.place..field.place + field.kind.width() {
+                let refusal = Refusal { number: 2, offset: field.place as u32 };
+                assert_eq!(read::drawing(&file[..kept]).unwrap_err(), refusal);
+            }
+        }
+    }
+}
+
+#[test]
+fn every_fault_has_its_number_and_offset() {
+    let mut seen = BTreeMap::new();
+    for drawing in drawings() {
+        let file = write::file(&drawing);
+        for field in of_file(&drawing) {
+            for fault in faults(field.kind, field.value) {
+                let refusal = Refusal { number: fault.number, offset: field.place as u32 };
+                let damaged = put(&file, &field, fault.value);
+                assert_eq!(read::drawing(&damaged).unwrap_err(), refusal, "{field:?} {fault:?}");
+                *seen.entry((drawing.version.minor(), fault.number)).or_insert(0) += 1;
+            }
+        }
+    }
+    for version in 0..=4 {
+        for number in 3..=12 {
+            let there = number != 12 || version < 3;
+            assert_eq!(seen.contains_key(&(version, number)), there, "1.{version}: {number}");
+        }
+    }
+}
+
+#[test]
+fn bytes_after_the_outer_group_are_13() {
+    for drawing in drawings() {
+        let mut file = write::file(&drawing);
+        let refusal = Refusal { number: 13, offset: file.len() as u32 };
+        file.push(0);
+        assert_eq!(read::drawing(&file).unwrap_err(), refusal);
+        file.extend([1, 2, 3]);
+        assert_eq!(read::drawing(&file).unwrap_err(), refusal);
+    }
+}
