@@ -1,6 +1,6 @@
 -- Paths and their segments (01, 'Object', P).
 use mathlib.Core.Path.{refl}
-use mathlib.Core.Bool.{true}
+use mathlib.Core.Bool.{Bool, true}
 use mathlib.Core.Option.{Option, none, some}
 use Prim.Native.Nat.{ℕ}
 use Prim.Native.Char.{code}
@@ -72,10 +72,10 @@ abbrev pub joinedPoint : Option Point → Layout Point
 joinedPoint none = point
 joinedPoint (some p) = twoDoubles (field (joined (p .x))) (field (joined (p .y)))
 
--- A segment behind one that ends at this point, or the first one.
-abbrev pub segment : ℕ → Option Point → Layout Segment
-segment v before =
-    let start = when (ltb v 3) (joinedPoint before) origin in
+-- A segment, with a start point of its own or without, behind one that ends at this point, or the first one.
+abbrev pub segment : (own : Bool) → Option Point → Layout Segment
+segment own before =
+    let start = when own (joinedPoint before) origin in
     byChar segmentLetter
     (alternative (code "B") true (start & point & point & point) (λ (s, (p, (q, e))). curve s p q e) curvePoints (λ t. refl) (λ t. refl))
     (alternative (code "L") true (start & point) (λ (s, e). line s e) linePoints (λ t. refl) (λ t. refl)
@@ -83,7 +83,7 @@ segment v before =
     ∷ [])
 
 abbrev pub segments : ℕ → ℕ → Layout (List Segment)
-segments v n = threaded n (segment v) (λ before s. some (endOf s)) none
+segments v n = threaded n (segment (ltb v 3)) (λ before s. some (endOf s)) none
 
 -- A count, the start point from 1.3 on, and as many segments.
 abbrev pub outline : ℕ → Layout (Point × List Segment)
@@ -92,7 +92,7 @@ outline v =
     (field segmentCount)
     (λ n. when (leb 3 v) point origin & segments v n)
     (λ t. length (t .1))
-    (λ n t allowed good. each-length (λ before. segment v before .Good) (λ before s. some (endOf s)) n none (t .1) (good .1))
+    (λ n t allowed good. each-length (λ before. segment (ltb v 3) before .Good) (λ before s. some (endOf s)) n none (t .1) (good .1))
 
 abbrev pub path : ℕ → Layout Path
 path v =

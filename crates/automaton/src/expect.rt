@@ -1,0 +1,163 @@
+// What field the layout asks for next: the states of the automaton, one enum for each thing of the format. Strings, paints and markers stand in
+// several places, and their states say in which, so that it is known what comes behind them.
+
+// Where a string stands.
+pub enum StringAt {
+    Family,
+    LatexFamily,
+    LatexSeries,
+    LatexShape,
+    LatexSize,
+    Alternative,
+    Text,
+    Name,
+    Link,
+    Command,
+    Description,
+}
+
+// Where a paint stands.
+pub enum PaintAt {
+    Line,
+    Fill,
+    Text,
+}
+
+pub enum Gradient {
+    Linear,
+    Radial,
+}
+
+// Which of a path's markers.
+pub enum MarkerAt {
+    Start,
+    Mid,
+    End,
+}
+
+// A chain of markers, of which so many more may come.
+pub struct Chain {
+    pub which: MarkerAt,
+    pub left: u32,
+}
+
+// Where a plain paint stands: as a whole paint, as the first or the second of a gradient, or in a marker.
+pub enum PlainAt {
+    Whole(PaintAt),
+    From(PaintAt, Gradient),
+    To(PaintAt, Gradient),
+    Marker(Chain),
+}
+
+pub enum Settings {
+    Which,
+    Flags,
+    Tool,
+    NormalSize,
+    Paper { all: bool },
+    PaperSize { all: bool },
+    Portrait { all: bool },
+    Unit,
+    Divisions,
+}
+
+pub enum Strings {
+    Length(StringAt),
+    // so many chars are left, and one more
+    Chars(StringAt, u64),
+}
+
+pub enum Paints {
+    Letter(PaintAt),
+    PlainLetter(PlainAt),
+    Hue(PlainAt),
+    // so many components are left, and one more
+    Components(PlainAt, u64),
+    Position(PaintAt, Gradient),
+}
+
+pub enum Markers {
+    Id(Chain),
+    Size(Chain),
+    Double(Chain),
+    Repeat(Chain),
+    Reversed(Chain),
+    AutoOrient(Chain),
+    Angle(Chain),
+    Overlay(Chain),
+    OffsetFlag(Chain),
+    Offset(Chain),
+    RepeatFlag(Chain),
+    RepeatOffset(Chain),
+}
+
+pub enum Style {
+    Width,
+    DashCount,
+    // so many lengths, and the offset
+    Dashes(u64),
+    Cap,
+    Join,
+    MitreLimit,
+    Winding,
+}
+
+// The end point of the segment before, by its bits.
+pub enum Joins {
+    Free,
+    To { x: u64, y: u64 },
+}
+
+// In each state with a number of segments, so many come behind the present one.
+pub enum Outline {
+    Closed,
+    Count,
+    // the start point, before so many segments
+    Start(u64),
+    Letter(u64, Joins),
+    Points {
+        left: u64,
+        curve: bool,
+    },
+    OwnX {
+        left: u64,
+        curve: bool,
+        joins: Joins,
+    },
+    OwnY {
+        left: u64,
+        curve: bool,
+        joins: Joins,
+    },
+    Controls(u64),
+    EndX(u64),
+    EndY(u64, u64),
+}
+
+pub enum Texts {
+    Shape,
+    Series,
+    Size,
+    Transformation,
+    LatexFlag,
+    Horizontal,
+    Vertical,
+}
+
+pub enum Bitmaps {
+    LatexFlag,
+    Transformation,
+}
+
+pub enum Expect {
+    Settings(Settings),
+    String(Strings),
+    Paint(Paints),
+    Marker(Markers),
+    Style(Style),
+    Outline(Outline),
+    Text(Texts),
+    Bitmap(Bitmaps),
+    FlowFlag,
+    End,
+}
