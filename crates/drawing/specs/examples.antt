@@ -1,5 +1,6 @@
 -- Example files, one in full for each version, with the drawings and tables that 01 gives them; and files that are refused.
 pub mod Bytes
+pub mod Whole
 pub mod File10
 pub mod File11
 pub mod File12

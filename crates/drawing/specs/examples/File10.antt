@@ -1,6 +1,6 @@
 -- A file of version 1.0 in full: all settings, with a paper of its own size; arrows for markers, and none in the middle; segments
 -- with start points of their own, one of them a NaN; groups in groups; no descriptions.
-use mathlib.Core.Path.{_≡_, refl}
+use mathlib.Core.Path.{refl}
 use mathlib.Core.Option.{none, some}
 use Prim.Native.Nat.{ℕ}
 use Prim.Native.Char.{code}
@@ -13,9 +13,8 @@ use Rattle.drawing.specs.Text.{Text}
 use Rattle.drawing.specs.Bitmap.{Bitmap}
 use Rattle.drawing.specs.Settings.{Settings, all}
 use Rattle.drawing.specs.Object.{path, text, bitmap, leaf, group, ofList}
-use Rattle.drawing.specs.Drawing.{Drawing, drawing, drawingOf, fileOf}
-use Rattle.drawing.specs.Table.{contentsOf, bodiesOf}
-use Rattle.drawing.specs.TableDrawing.{drawingOfTable}
+use Rattle.drawing.specs.Drawing.{Drawing}
+use Rattle.drawing.specs.examples.Whole.{Whole}
 use Rattle.drawing.specs.examples.Bytes.{Item, byte, flag, int, float, double, char, string, codes, bytes, words, floats, doubles, head, at}
 
 -- ---- the settings
@@ -215,16 +214,10 @@ tree =
       description = [];
     }
 
-reads : drawingOf file ≡ drawing tree
-unfolding fromZeroTo le ofInt ofBits
-reads = refl
-
-writes : fileOf tree ≡ file
-writes = refl
-
 -- Kind, parent, start and length of each row.
-contents : contentsOf tree ≡
-    (1 ∷ 0 ∷ 244 ∷ 2
+abbrev contents : List ℕ
+contents =
+    1 ∷ 0 ∷ 244 ∷ 2
     ∷ 2 ∷ 0 ∷ 16 ∷ 75
     ∷ 1 ∷ 0 ∷ 173 ∷ 2
     ∷ 1 ∷ 2 ∷ 111 ∷ 2
@@ -234,19 +227,18 @@ contents : contentsOf tree ≡
     ∷ 2 ∷ 2 ∷ 140 ∷ 33
     ∷ 4 ∷ 0 ∷ 175 ∷ 26
     ∷ 3 ∷ 0 ∷ 201 ∷ 43
-    ∷ [])
-contents = refl
+    ∷ []
 
 -- The minor version and the settings; then rows 1, 5, 4, 3, 6, 7, 2, 8, 9 and 0, as the objects end.
-bodies : bodiesOf tree ≡
+abbrev bodies : List ℕ
+bodies =
     words
     (int 0 ∷ settingsFields
     ++ openFields
     ++ pictureFields ++ int 1 ∷ flag 0 ∷ [] ++ int 1 ∷ flag 0 ∷ []
     ++ plainFields ++ closedFields ++ int 3 ∷ flag 0 ∷ []
     ++ linkedFields ++ latexFields ++ int 4 ∷ flag 0 ∷ [])
-bodies = refl
 
-back : drawingOfTable (contentsOf tree) (bodiesOf tree) ≡ some tree
+whole : Whole file tree contents bodies
 unfolding fromZeroTo le ofInt ofBits
-back = refl
+whole = record { reads = refl; writes = refl; rows = refl; words = refl; back = refl }

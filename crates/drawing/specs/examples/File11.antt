@@ -1,6 +1,6 @@
 -- A file of version 1.1 in full: no settings; chains of markers, at the start, in the middle and at the end of a path; a text with an
 -- alternative; no descriptions.
-use mathlib.Core.Path.{_≡_, refl}
+use mathlib.Core.Path.{refl}
 use mathlib.Core.Option.{Option, none, some}
 use Prim.Native.Nat.{ℕ}
 use Prim.Native.Char.{code}
@@ -14,9 +14,8 @@ use Rattle.drawing.specs.Text.{Text}
 use Rattle.drawing.specs.Bitmap.{Bitmap}
 use Rattle.drawing.specs.Settings.{absent}
 use Rattle.drawing.specs.Object.{path, text, bitmap, leaf, group, ofList}
-use Rattle.drawing.specs.Drawing.{Drawing, drawing, drawingOf, fileOf}
-use Rattle.drawing.specs.Table.{contentsOf, bodiesOf}
-use Rattle.drawing.specs.TableDrawing.{drawingOfTable}
+use Rattle.drawing.specs.Drawing.{Drawing}
+use Rattle.drawing.specs.examples.Whole.{Whole}
 use Rattle.drawing.specs.examples.Bytes.{Item, byte, flag, int, float, double, char, string, codes, bytes, words, floats, doubles, head, at}
 
 -- ---- row 1: a path with no start marker, one mid marker and two end markers
@@ -189,35 +188,28 @@ tree =
       description = [];
     }
 
-reads : drawingOf file ≡ drawing tree
-unfolding fromZeroTo le ofInt ofBits
-reads = refl
-
-writes : fileOf tree ≡ file
-writes = refl
-
 -- Kind, parent, start and length of each row.
-contents : contentsOf tree ≡
-    (1 ∷ 0 ∷ 252 ∷ 2
+abbrev contents : List ℕ
+contents =
+    1 ∷ 0 ∷ 252 ∷ 2
     ∷ 2 ∷ 0 ∷ 2 ∷ 89
     ∷ 1 ∷ 0 ∷ 227 ∷ 2
     ∷ 1 ∷ 2 ∷ 173 ∷ 2
     ∷ 2 ∷ 3 ∷ 91 ∷ 82
     ∷ 3 ∷ 2 ∷ 175 ∷ 52
     ∷ 4 ∷ 0 ∷ 229 ∷ 23
-    ∷ [])
-contents = refl
+    ∷ []
 
 -- The minor version and the settings flag; then rows 1, 4, 3, 5, 2, 6 and 0, as the objects end.
-bodies : bodiesOf tree ≡
+abbrev bodies : List ℕ
+bodies =
     words
     (int 1 ∷ flag 0
     ∷ firstFields
     ++ secondFields ++ int 1 ∷ flag 0 ∷ []
     ++ textFields ++ int 2 ∷ flag 0 ∷ []
     ++ bitmapFields ++ int 3 ∷ flag 0 ∷ [])
-bodies = refl
 
-back : drawingOfTable (contentsOf tree) (bodiesOf tree) ≡ some tree
+whole : Whole file tree contents bodies
 unfolding fromZeroTo le ofInt ofBits
-back = refl
+whole = record { reads = refl; writes = refl; rows = refl; words = refl; back = refl }

@@ -20,12 +20,11 @@ use Rattle.drawing.specs.Text.{Text}
 use Rattle.drawing.specs.Bitmap.{Bitmap}
 use Rattle.drawing.specs.Settings.{Settings, all}
 use Rattle.drawing.specs.Object.{path, text, bitmap, leaf, group, ofList}
-use Rattle.drawing.specs.Drawing.{Drawing, drawing, drawingOf, fileOf}
-use Rattle.drawing.specs.Table.{contentsOf, bodiesOf}
-use Rattle.drawing.specs.TableDrawing.{drawingOfTable}
+use Rattle.drawing.specs.Drawing.{Drawing}
 use Rattle.drawing.specs.Order.{entries, groupsAround}
 use Rattle.drawing.specs.Answers.{answer, readResult, checkAnswer, listOutput}
 use Rattle.drawing.specs.Questions.{paintAnswer, textAnswer}
+use Rattle.drawing.specs.examples.Whole.{Whole}
 use Rattle.drawing.specs.examples.Bytes.{Item, byte, flag, int, float, double, char, string, coded, codes, bytes, words, floats, doubles, head, at}
 
 -- ---- the settings
@@ -178,16 +177,10 @@ tree =
       description = codes "top";
     }
 
-reads : drawingOf file ≡ drawing tree
-unfolding fromZeroTo le ofInt ofBits
-reads = refl
-
-writes : fileOf tree ≡ file
-writes = refl
-
 -- Kind, parent, start and length of each row.
-contents : contentsOf tree ≡
-    (1 ∷ 0 ∷ 211 ∷ 6
+abbrev contents : List ℕ
+contents =
+    1 ∷ 0 ∷ 211 ∷ 6
     ∷ 4 ∷ 0 ∷ 11 ∷ 18
     ∷ 1 ∷ 0 ∷ 184 ∷ 5
     ∷ 1 ∷ 2 ∷ 143 ∷ 4
@@ -196,11 +189,11 @@ contents : contentsOf tree ≡
     ∷ 2 ∷ 3 ∷ 89 ∷ 54
     ∷ 3 ∷ 2 ∷ 147 ∷ 37
     ∷ 4 ∷ 0 ∷ 189 ∷ 22
-    ∷ [])
-contents = refl
+    ∷ []
 
 -- The minor version and the settings; then rows 1, 5, 4, 6, 3, 7, 2, 8 and 0, as the objects end.
-bodies : bodiesOf tree ≡
+abbrev bodies : List ℕ
+bodies =
     words
     (int 2 ∷ settingsFields
     ++ bitmapFields
@@ -208,11 +201,10 @@ bodies : bodiesOf tree ≡
     ++ markedFields ++ int 2 ∷ flag 0 ∷ string "x" ∷ []
     ++ plainFields ++ int 2 ∷ flag 0 ∷ coded (0xD800 ∷ 0xFFFF ∷ []) ∷ []
     ++ linkedFields ++ int 3 ∷ flag 0 ∷ string "top" ∷ [])
-bodies = refl
 
-back : drawingOfTable (contentsOf tree) (bodiesOf tree) ≡ some tree
+whole : Whole file tree contents bodies
 unfolding fromZeroTo le ofInt ofBits
-back = refl
+whole = record { reads = refl; writes = refl; rows = refl; words = refl; back = refl }
 
 -- ---- answers
 
@@ -226,13 +218,13 @@ around = refl
 
 -- The file has 674 bytes, 9 rows and 217 words; what is lent past them stays.
 answers : (readResult file (replicate 38 9) (replicate 218 8)
-    ≡ record { answer = answer 0 674 9 217; contents = contentsOf tree ++ 9 ∷ 9 ∷ []; bodies = bodiesOf tree ++ 8 ∷ [] })
-    × (checkAnswer (contentsOf tree) (bodiesOf tree) ≡ answer 0 674 9 217)
-    × (listOutput (contentsOf tree) (bodiesOf tree) (codes "x") (7 ∷ 7 ∷ 7 ∷ 7 ∷ 7 ∷ []) ≡ record { answer = answer 0 0 4 0; buffer = 1 ∷ 3 ∷ 5 ∷ 8 ∷ 7 ∷ [] })
+    ≡ record { answer = answer 0 674 9 217; contents = contents ++ 9 ∷ 9 ∷ []; bodies = bodies ++ 8 ∷ [] })
+    × (checkAnswer contents bodies ≡ answer 0 674 9 217)
+    × (listOutput contents bodies (codes "x") (7 ∷ 7 ∷ 7 ∷ 7 ∷ 7 ∷ []) ≡ record { answer = answer 0 0 4 0; buffer = 1 ∷ 3 ∷ 5 ∷ 8 ∷ 7 ∷ [] })
 unfolding fromZeroTo le ofInt ofBits
 answers = (refl, refl, refl)
 
-paints : map (λ (q : ℕ × Which). paintAnswer (contentsOf tree) (bodiesOf tree) (q .0) (q .1)) ((6, Line) ∷ (6, Fill) ∷ (5, Letters) ∷ (7, Letters) ∷ (7, Fill) ∷ (6, Letters) ∷ (0, Line) ∷ (9, Line) ∷ [])
+paints : map (λ (q : ℕ × Which). paintAnswer contents bodies (q .0) (q .1)) ((6, Line) ∷ (6, Fill) ∷ (5, Letters) ∷ (7, Letters) ∷ (7, Fill) ∷ (6, Letters) ∷ (0, Line) ∷ (9, Line) ∷ [])
     ≡ Plain Enum.Transparent
     ∷ Plain (Enum.Cmyk (fin false 1 (negsuc 2)) (fin false 3 (negsuc 2)) (fin false 5 (negsuc 2)) (fin false 7 (negsuc 2)) (fin true 0 (pos 0)))
     ∷ Plain (Enum.Rgb (fin false 1 (negsuc 0)) (fin false 1 (negsuc 1)) (fin false 3 (negsuc 1)) (fin false 1 (pos 0)))
@@ -242,7 +234,7 @@ unfolding fromZeroTo le ofInt ofBits
 paints = refl
 
 -- The places of the alternative and of the text.
-texts : map (λ row. textAnswer (contentsOf tree) (bodiesOf tree) row) (5 ∷ 7 ∷ 6 ∷ 9 ∷ [])
+texts : map (λ row. textAnswer contents bodies row) (5 ∷ 7 ∷ 6 ∷ 9 ∷ [])
     ≡ record { number = 0; alternative = record { start = 65; length = 6 }; text = record { start = 77; length = 5 } }
     ∷ record { number = 0; alternative = record { start = 0; length = 0 }; text = record { start = 177; length = 5 } }
     ∷ record { number = 7; alternative = record { start = 0; length = 0 }; text = record { start = 0; length = 0 } }

@@ -19,11 +19,10 @@ use Rattle.drawing.specs.Text.{Text}
 use Rattle.drawing.specs.Bitmap.{Bitmap}
 use Rattle.drawing.specs.Settings.{Settings, all}
 use Rattle.drawing.specs.Object.{path, text, bitmap, leaf, group, ofList}
-use Rattle.drawing.specs.Drawing.{Drawing, drawing, drawingOf, fileOf}
-use Rattle.drawing.specs.Table.{contentsOf, bodiesOf}
-use Rattle.drawing.specs.TableDrawing.{drawingOfTable}
+use Rattle.drawing.specs.Drawing.{Drawing}
 use Rattle.drawing.specs.Order.{entries, groupsAround}
 use Rattle.drawing.specs.Questions.{paintAnswer, textAnswer}
+use Rattle.drawing.specs.examples.Whole.{Whole}
 use Rattle.drawing.specs.examples.Bytes.{Item, byte, flag, int, float, double, char, string, codes, bytes, words, floats, doubles, head, at}
 
 -- ---- the settings
@@ -176,16 +175,10 @@ tree =
       description = [];
     }
 
-reads : drawingOf file ≡ drawing tree
-unfolding fromZeroTo le ofInt ofBits
-reads = refl
-
-writes : fileOf tree ≡ file
-writes = refl
-
 -- Kind, parent, start and length of each row.
-contents : contentsOf tree ≡
-    (1 ∷ 0 ∷ 243 ∷ 3
+abbrev contents : List ℕ
+contents =
+    1 ∷ 0 ∷ 243 ∷ 3
     ∷ 1 ∷ 0 ∷ 173 ∷ 6
     ∷ 1 ∷ 1 ∷ 165 ∷ 8
     ∷ 2 ∷ 2 ∷ 11 ∷ 105
@@ -193,21 +186,20 @@ contents : contentsOf tree ≡
     ∷ 4 ∷ 0 ∷ 179 ∷ 23
     ∷ 1 ∷ 0 ∷ 237 ∷ 6
     ∷ 2 ∷ 6 ∷ 202 ∷ 35
-    ∷ [])
-contents = refl
+    ∷ []
 
 -- The minor version and the settings; then rows 3, 4, 2, 1, 5, 7, 6 and 0, as the objects end.
-bodies : bodiesOf tree ≡
+abbrev bodies : List ℕ
+bodies =
     words
     (int 3 ∷ settingsFields
     ++ openFields ++ textFields ++ int 2 ∷ flag 0 ∷ string "inner" ∷ []
     ++ int 1 ∷ flag 0 ∷ string "one" ∷ []
     ++ bitmapFields ++ closedFields ++ int 1 ∷ flag 0 ∷ string "one" ∷ [] ++ int 3 ∷ flag 0 ∷ string "" ∷ [])
-bodies = refl
 
-back : drawingOfTable (contentsOf tree) (bodiesOf tree) ≡ some tree
+whole : Whole file tree contents bodies
 unfolding fromZeroTo le ofInt ofBits
-back = refl
+whole = record { reads = refl; writes = refl; rows = refl; words = refl; back = refl }
 
 -- ---- answers
 
@@ -217,7 +209,7 @@ labels = refl
 around : groupsAround tree ≡ [] ∷ (0 ∷ []) ∷ (1 ∷ 0 ∷ []) ∷ (2 ∷ 1 ∷ 0 ∷ []) ∷ (2 ∷ 1 ∷ 0 ∷ []) ∷ (0 ∷ []) ∷ (0 ∷ []) ∷ (6 ∷ 0 ∷ []) ∷ []
 around = refl
 
-paints : map (λ (q : ℕ × Which). paintAnswer (contentsOf tree) (bodiesOf tree) (q .0) (q .1)) ((3, Line) ∷ (3, Fill) ∷ (4, Letters) ∷ (7, Fill) ∷ (6, Fill) ∷ [])
+paints : map (λ (q : ℕ × Which). paintAnswer contents bodies (q .0) (q .1)) ((3, Line) ∷ (3, Fill) ∷ (4, Letters) ∷ (7, Fill) ∷ (6, Fill) ∷ [])
     ≡ Plain (Enum.Rgb (fin false 1 (negsuc 0)) (fin false 1 (pos 0)) (fin false 1 (negsuc 1)) (fin false 3 (negsuc 1)))
     ∷ Radial
     (Enum.Rgb (fin false 1 (negsuc 2)) (fin false 3 (negsuc 2)) (fin false 5 (negsuc 2)) (fin false 7 (negsuc 2)))
@@ -230,7 +222,7 @@ unfolding fromZeroTo le ofInt ofBits
 paints = refl
 
 -- The alternative is empty and starts one past its length word.
-texts : textAnswer (contentsOf tree) (bodiesOf tree) 4
+texts : textAnswer contents bodies 4
     ≡ record { number = 0; alternative = record { start = 150; length = 0 }; text = record { start = 155; length = 5 } }
 unfolding fromZeroTo le ofInt ofBits
 texts = refl

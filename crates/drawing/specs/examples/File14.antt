@@ -19,11 +19,10 @@ use Rattle.drawing.specs.Text.{Text}
 use Rattle.drawing.specs.Bitmap.{Bitmap}
 use Rattle.drawing.specs.Settings.{paperOnly}
 use Rattle.drawing.specs.Object.{path, text, bitmap, leaf, group, ofList}
-use Rattle.drawing.specs.Drawing.{Drawing, drawing, drawingOf, fileOf}
-use Rattle.drawing.specs.Table.{contentsOf, bodiesOf}
-use Rattle.drawing.specs.TableDrawing.{drawingOfTable}
+use Rattle.drawing.specs.Drawing.{Drawing}
 use Rattle.drawing.specs.Order.{entries, groupsAround}
 use Rattle.drawing.specs.Questions.{paintAnswer, textAnswer}
+use Rattle.drawing.specs.examples.Whole.{Whole}
 use Rattle.drawing.specs.examples.Bytes.{Item, byte, flag, int, float, double, char, string, codes, bytes, words, floats, doubles, head, at}
 
 -- ---- the settings: paper only, of its own size, and no portrait flag
@@ -169,37 +168,30 @@ tree =
       description = codes "a";
     }
 
-reads : drawingOf file ≡ drawing tree
-unfolding fromZeroTo fromZeroBelow le lt ofInt ofBits
-reads = refl
-
-writes : fileOf tree ≡ file
-writes = refl
-
 -- Kind, parent, start and length of each row.
-contents : contentsOf tree ≡
-    (1 ∷ 0 ∷ 261 ∷ 4
+abbrev contents : List ℕ
+contents =
+    1 ∷ 0 ∷ 261 ∷ 4
     ∷ 1 ∷ 0 ∷ 185 ∷ 5
     ∷ 1 ∷ 1 ∷ 118 ∷ 4
     ∷ 2 ∷ 2 ∷ 7 ∷ 111
     ∷ 2 ∷ 1 ∷ 122 ∷ 63
     ∷ 3 ∷ 0 ∷ 190 ∷ 53
     ∷ 4 ∷ 0 ∷ 243 ∷ 18
-    ∷ [])
-contents = refl
+    ∷ []
 
 -- The minor version and the settings; then rows 3, 2, 4, 1, 5, 6 and 0, as the objects end.
-bodies : bodiesOf tree ≡
+abbrev bodies : List ℕ
+bodies =
     words
     (int 4 ∷ settingsFields
     ++ markedFields ++ int 1 ∷ flag 0 ∷ string "c" ∷ []
     ++ gradientFields ++ int 2 ∷ flag 0 ∷ string "bb" ∷ []
     ++ textFields ++ bitmapFields ++ int 3 ∷ flag 0 ∷ string "a" ∷ [])
-bodies = refl
 
-back : drawingOfTable (contentsOf tree) (bodiesOf tree) ≡ some tree
+whole : Whole file tree contents bodies
 unfolding fromZeroTo fromZeroBelow le lt ofInt ofBits
-back = refl
+whole = record { reads = refl; writes = refl; rows = refl; words = refl; back = refl }
 
 -- ---- answers
 
@@ -209,7 +201,7 @@ labels = refl
 around : groupsAround tree ≡ [] ∷ (0 ∷ []) ∷ (1 ∷ 0 ∷ []) ∷ (2 ∷ 1 ∷ 0 ∷ []) ∷ (1 ∷ 0 ∷ []) ∷ (0 ∷ []) ∷ (0 ∷ []) ∷ []
 around = refl
 
-paints : map (λ (q : ℕ × Which). paintAnswer (contentsOf tree) (bodiesOf tree) (q .0) (q .1)) ((3, Line) ∷ (3, Fill) ∷ (4, Line) ∷ (4, Fill) ∷ (5, Letters) ∷ (5, Line) ∷ [])
+paints : map (λ (q : ℕ × Which). paintAnswer contents bodies (q .0) (q .1)) ((3, Line) ∷ (3, Fill) ∷ (4, Line) ∷ (4, Fill) ∷ (5, Letters) ∷ (5, Line) ∷ [])
     ≡ Plain (Enum.Grey (fin false 1 (negsuc 0)) (fin false 1 (pos 0)))
     ∷ Plain (Enum.Hsb (fin false 45 (pos 2)) (fin false 1 (negsuc 1)) (fin false 3 (negsuc 1)) (fin false 1 (negsuc 2)))
     ∷ Linear
@@ -226,7 +218,7 @@ unfolding fromZeroTo fromZeroBelow le lt ofInt ofBits
 paints = refl
 
 -- The places of the alternative and of the text.
-texts : textAnswer (contentsOf tree) (bodiesOf tree) 5
+texts : textAnswer contents bodies 5
     ≡ record { number = 0; alternative = record { start = 229; length = 3 }; text = record { start = 236; length = 3 } }
 unfolding fromZeroTo fromZeroBelow le lt ofInt ofBits
 texts = refl

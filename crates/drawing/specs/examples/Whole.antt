@@ -1,0 +1,16 @@
+-- What holds of an example file that is given in full.
+use mathlib.Core.Path.{_≡_}
+use mathlib.Core.Option.{some}
+use Prim.Native.Nat.{ℕ}
+use mathlib.Core.List.{List}
+use Rattle.drawing.specs.Drawing.{Drawing, drawing, drawingOf, fileOf}
+use Rattle.drawing.specs.Table.{contentsOf, bodiesOf}
+use Rattle.drawing.specs.TableDrawing.{drawingOfTable}
+
+-- The file is read as this drawing and the drawing written as this file; its table has these contents and bodies, and gives it back.
+pub record Whole (file : List ℕ) (tree : Drawing) (contents bodies : List ℕ) : Type 0 where
+  pub reads : drawingOf file ≡ drawing tree
+  pub writes : fileOf tree ≡ file
+  pub rows : contentsOf tree ≡ contents
+  pub words : bodiesOf tree ≡ bodies
+  pub back : drawingOfTable contents bodies ≡ some tree
