@@ -4,11 +4,10 @@ use mathlib.Core.Path.{_≡_}
 use mathlib.Core.Bool.{cond}
 use Prim.Native.Nat.{ℕ, suc, _+_, _<_}
 use mathlib.Core.List.{List, [], _∷_, _++_}
-use Rattle.drawing.specs.String.{String}
+use Rattle.drawing.specs.String.{String, equal}
 use Rattle.drawing.specs.Object.{Object, leaf, group, Objects, none, more}
 use Rattle.drawing.specs.Drawing.{Drawing, outer}
 use Rattle.drawing.specs.Table.{rows, parentIn}
-use Rattle.drawing.specs.TableDrawing.{equal}
 
 -- An object opens at its id char: a group before its objects, these in their order, each with all that it holds before the next.
 -- An object's row number is how many objects open before it, so its place in this list.

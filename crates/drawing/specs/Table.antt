@@ -77,12 +77,12 @@ startIn contents n = getD contents (rowWidth * n + 2) 0
 
 -- The rows of an object and of all that it holds: its parent's row, its own, and where the next body begins.
 abbrev mutual
-  pub contents : Object → ℕ → ℕ → ℕ → ℕ → List ℕ
+  pub contents : Object → (version parent own at : ℕ) → List ℕ
   contents (leaf l d) v parent own at = row (leafKind l) parent at (length (leafWords v l d))
   contents (group os d) v parent own at =
       row groupKind parent (at + length (bodiesAll os v)) (length (groupWords v (length (listOf os)) d)) ++ contentsAll os v own (suc own) at
 
-  pub contentsAll : Objects → ℕ → ℕ → ℕ → ℕ → List ℕ
+  pub contentsAll : Objects → (version parent own at : ℕ) → List ℕ
   contentsAll none v parent own at = []
   contentsAll (more o os) v parent own at =
       contents o v parent own at ++ contentsAll os v parent (own + rows o) (at + length (bodies o v))

@@ -13,7 +13,7 @@ use Rattle.drawing.specs.Codecs as Codecs
 use Rattle.format.specs.Layout.{Layout, field, parse, _▸_}
 use Rattle.drawing.specs.Limits.{lastMinor, lengthLimit, depthLimit}
 use Rattle.drawing.specs.Fields.{integerIn}
-use Rattle.drawing.specs.String.{String}
+use Rattle.drawing.specs.String.{String, equal}
 use Rattle.drawing.specs.Settings.{Settings, settings}
 use Rattle.drawing.specs.Object.{Object, leaf, group, Objects, ofList}
 use Rattle.drawing.specs.LeafLayout.{leafBody}
@@ -38,12 +38,6 @@ onward lost f = lost
 abbrev pub provided : {A : Type 0} → Bool → Walk A → Walk A
 provided true w = w
 provided false w = lost
-
-abbrev pub equal : List ℕ → List ℕ → Bool
-equal [] [] = true
-equal [] (y ∷ ys) = false
-equal (x ∷ xs) [] = false
-equal (x ∷ xs) (y ∷ ys) = eqb x y && equal xs ys
 
 -- The next row's words, with the place behind them.
 abbrev pub rowFrom : Place → Option (List ℕ × List ℕ) → Walk (List ℕ)

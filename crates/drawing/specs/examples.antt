@@ -10,3 +10,4 @@ pub mod Cases
 pub mod PathCases
 pub mod Refusals
 pub mod Tables
+pub mod AnswerCases

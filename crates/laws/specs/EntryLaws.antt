@@ -9,11 +9,10 @@ use native.Mathlib.Omega.{arith}
 use mathlib.Core.List.{List, [], _∷_, Pairwise, Pairwise·nil, Pairwise·cons}
 use mathlib.Core.List.{List·Memᴰ, List·Memᴰ·head, List·Memᴰ·tail, List·Memᴰ·cases-cons, List·Memᴰ·not-nil}
 use lib.ListN.{length, getD}
-use Rattle.drawing.specs.String.{String}
+use Rattle.drawing.specs.String.{String, equal}
 use Rattle.drawing.specs.Object.{Object}
 use Rattle.drawing.specs.Drawing.{Drawing, outer}
 use Rattle.drawing.specs.Table.{rows}
-use Rattle.drawing.specs.TableDrawing.{equal}
 use Rattle.drawing.specs.Order.{objectsOf, descriptionOf, entriesFrom, entries}
 use Rattle.laws.specs.EqualLaws.{equal-iff}
 use Rattle.laws.specs.OrderLaws.{rows-preorder, shift}

@@ -6,7 +6,7 @@ use Prim.Native.Nat.{ℕ}
 use mathlib.Core.List.{List, [], _∷_}
 use lib.Dec.{eqb}
 use borrow.Author.Tests.{eqb-true, eq-eqb}
-use Rattle.drawing.specs.TableDrawing.{equal}
+use Rattle.drawing.specs.String.{equal}
 
 pub equal-refl : (xs : List ℕ) → equal xs xs ≡ true
 equal-refl [] = refl

@@ -18,14 +18,14 @@ use Rattle.format.specs.Layout.{parse}
 use Rattle.format.specs.FixedLayoutLaws.{parse-encoded, parsed-good}
 use Rattle.drawing.specs.Limits.{lengthLimit, depthLimit}
 use Rattle.drawing.specs.FieldLaws.{and-both}
-use Rattle.drawing.specs.String.{String}
+use Rattle.drawing.specs.String.{String, equal}
 use Rattle.drawing.specs.Settings.{Settings, settings}
 use Rattle.drawing.specs.Object.{Objects, listOf}
 use Rattle.drawing.specs.ObjectLayout.{object, groupBody}
 use Rattle.drawing.specs.Drawing.{Drawing, outer, fileOf, Acceptable}
 use Rattle.laws.specs.FileGood.{Parts, file-parts, parts-file}
 use Rattle.drawing.specs.Table.{wordsOf, groupKind, groupOwn, groupWords, IsTable, rows, rowsAll, bodies, bodiesAll, row, contents, contentsAll, headWords, contentsOf, bodiesOf}
-use Rattle.drawing.specs.TableDrawing.{Place, Walk, met, lost, equal, nextRow, walkGroup, walkObject, tableHead, walkOuter, ended, wholeTable, behindHead, drawingOfTable}
+use Rattle.drawing.specs.TableDrawing.{Place, Walk, met, lost, nextRow, walkGroup, walkObject, tableHead, walkOuter, ended, wholeTable, behindHead, drawingOfTable}
 use Rattle.laws.specs.EqualLaws.{equal-true}
 use Rattle.laws.specs.WalkLaws.{words-used, Holding, holding-onward, RowMet, next-row-holds}
 use Rattle.laws.specs.WalkComplete.{place, one-word, objects-of-list, group-met, walk-many, next-word}

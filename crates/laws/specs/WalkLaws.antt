@@ -17,7 +17,8 @@ use Rattle.format.specs.Layout.{Layout, parse}
 use Rattle.format.specs.FixedLayoutLaws.{parse-encoded, parsed-good}
 use Rattle.drawing.specs.Table.{wordsOf, row}
 use Rattle.laws.specs.EqualLaws.{equal-refl, equal-true}
-use Rattle.drawing.specs.TableDrawing.{Place, Walk, met, lost, onward, provided, equal, rowFrom, nextRow, bodyFrom, body}
+use Rattle.drawing.specs.String.{equal}
+use Rattle.drawing.specs.TableDrawing.{Place, Walk, met, lost, onward, provided, rowFrom, nextRow, bodyFrom, body}
 
 -- ---- bodies
 
