@@ -1,0 +1,15 @@
+-- `automaton::after::after_bitmap` meets its contract, arm by arm.
+use borrow.Author.Needs.{needs}
+use Rattle.automaton.specs.Tests.{tests}
+use Rattle.automaton.proofs.after.after_bitmap.Statement.{statement}
+use Rattle.automaton.proofs.after.after_bitmap.Tie as tie
+
+pub after-bitmap-spec : {M : Type 1} → statement M
+after-bitmap-spec =
+    tie.close
+    (tie.spec
+    (λ c. search needs)
+    (λ c. search needs)
+    (λ c. let h0 = c .if1 .taken in simp (c .before .enum-told .given .1, h0, tests))
+    (λ c. let h0 = c .if1 .left in simp (c .before .enum-told .given .1, h0, tests))
+    (λ c. simp (c .enum-told2 .given .1)))

@@ -1,0 +1,25 @@
+-- `automaton::after::after_text` meets its contract, arm by arm.
+use borrow.Author.Needs.{needs}
+use Rattle.automaton.specs.Tests.{tests}
+use Rattle.automaton.proofs.after.after_text.Statement.{statement}
+use Rattle.automaton.proofs.after.after_text.Tie as tie
+
+pub after-text-spec : {M : Type 1} → statement M
+after-text-spec =
+    tie.close
+    (tie.spec
+    (λ c. search needs)
+    (λ c. search needs)
+    (λ c. search needs)
+    (λ c. search needs)
+    (λ c. search needs)
+    (λ c. search needs)
+    (λ c. search needs)
+    (λ c. simp (c .enum-told .given .1))
+    (λ c. simp (c .enum-told2 .given .1))
+    (λ c. simp (c .enum-told3 .given .1))
+    (λ c. simp (c .enum-told4 .given .1))
+    (λ c. let h0 = c .if1 .taken in simp (c .before .enum-told5 .given .1, h0, tests))
+    (λ c. let h0 = c .if1 .left in simp (c .before .enum-told5 .given .1, h0, tests))
+    (λ c. simp (c .enum-told6 .given .1))
+    (λ c. simp (c .enum-told7 .given .1)))

@@ -1,0 +1,13 @@
+-- `automaton::after::leaf_start` meets its contract, arm by arm.
+use borrow.Author.Needs.{needs}
+use Rattle.automaton.specs.Tests.{tests}
+use Rattle.automaton.proofs.after.leaf_start.Statement.{statement}
+use Rattle.automaton.proofs.after.leaf_start.Tie as tie
+
+pub leaf-start-spec : {M : Type 1} → statement M
+leaf-start-spec =
+    tie.close
+    (tie.spec
+    (λ c. let h0 = c .if1 .taken in simp (h0, tests))
+    (λ c. let h0 = c .if2 .taken in let h1 = c .before .if1 .left in simp (h0, h1, tests))
+    (λ c. let h0 = c .if2 .left in let h1 = c .before .if1 .left in simp (h0, h1, tests)))

@@ -1,0 +1,16 @@
+-- `automaton::want::want_paint` meets its contract, arm by arm.
+use borrow.Author.Needs.{needs}
+use Rattle.automaton.proofs.want.want_paint.Statement.{statement}
+use Rattle.automaton.proofs.want.want_paint.Tie as tie
+
+pub want-paint-spec : {M : Type 1} → statement M
+want-paint-spec =
+    tie.close
+    (tie.spec
+    (λ c. search needs)
+    (λ c. search needs)
+    (λ c. search needs)
+    (λ c. search needs)
+    (λ c. simp (c .enum-told .given .1))
+    (λ c. simp (c .enum-told2 .given .1, c .before .before .before .state .given .1))
+    (λ c. simp (c .enum-told3 .given .1, c .before .before .before .state .given .1)))
