@@ -1,2 +1,7 @@
+-- The kinds of field in code: what they mean, and what reading one says.
 pub mod Tests
 pub mod Kinds
+pub mod SignedLaws
+pub mod Turn
+pub mod TurnLaws
+pub mod KindLaws

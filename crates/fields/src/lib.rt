@@ -3,6 +3,12 @@ ghost use mathlib.Core.Path.{_≡_};
 ghost use Rattle.format.specs.Kind.{size};
 ghost use Rattle.fields.specs.Kinds.{kindOf};
 
+pub mod fault;
+pub mod floats;
+pub mod letters;
+pub mod ranges;
+pub mod turn;
+
 pub enum Kind {
     Magic,
     VersionLength,

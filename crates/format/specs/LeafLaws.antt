@@ -26,7 +26,7 @@ module _ (base : ℕ) where
   below-take (suc n) [] h = tt
   below-take (suc n) (d ∷ ds) h = (h .0, below-take n ds (h .1))
 
-  below-drop : (n : ℕ) (s : List ℕ) → Below base s → Below base (drop n s)
+  pub below-drop : (n : ℕ) (s : List ℕ) → Below base s → Below base (drop n s)
   below-drop zero s h = h
   below-drop (suc n) [] h = tt
   below-drop (suc n) (d ∷ ds) h = below-drop n ds (h .1)

@@ -10,8 +10,8 @@ use lib.Seq.{drop-drop}
 use borrow.Author.Tests.{lt-ltb}
 use native.Mathlib.Omega.{arith}
 use native.Mathlib.Nat as Nat
-use Rattle.format.specs.Digits.{Below, number}
-use Rattle.format.specs.DigitsLaws.{number-below}
+use Rattle.format.specs.Digits.{Below, number, digits}
+use Rattle.format.specs.DigitsLaws.{number-below, length-digits}
 use Rattle.format.specs.Kind.{Shape, values, Kind, Field, Allowed}
 use Rattle.format.specs.Codec.{Codec, Lawful, Spelling, spellAll, Outcome, found, refused, andThen, Explained}
 use Rattle.format.specs.FixedCodec.{Fixed, fixed, literal, spellFixed, splitAt}
@@ -21,7 +21,7 @@ use Rattle.format.specs.Format.{Format, known, one, pair, many, pick, le
 use Rattle.format.specs.FormatLaws.{Taken, taken}
 use Rattle.format.specs.Layout.{Layout, parse, encode, field, nothing, either, threaded, renamed, case, implied, _▸_}
 use Rattle.format.specs.FixedLayoutLaws.{parsed-good}
-use Rattle.format.specs.Translate.{prefixed, translate}
+use Rattle.format.specs.Translate.{prefixed, translate, recoded}
 
 -- ---- outcomes
 
@@ -202,71 +202,75 @@ parsed-length F S lit L us b a rest e =
 
 -- ---- runs of fields that cannot be at fault
 
--- Fields of w units each, of which none can be at fault, each spelled by u units.
-pub record Plain {S : Type 0} (F : Fixed) (spell : Spelling) (kind : S → Kind) (w u : ℕ) : Type 0 where
-  pub wide : (s : S) → F .width (kind s .shape) ≡ w
-  pub means : (s : S) (x : ℕ) → x < F .base ^ w → (v : ℕ) × (F .meaning (kind s .shape) x ≡ some v)
-  pub faultless : (s : S) (v : ℕ) → kind s .fault v ≡ 0
-  pub spells : (s : S) (v : ℕ) → length (spell (kind s) v) ≡ u
+pub length-recoded : (base w other u n : ℕ) (us : List ℕ) → length (recoded base w other u n us) ≡ n * u
+length-recoded base w other u zero us = omega arith
+length-recoded base w other u (suc n) us = rw (length-append, length-digits, length-recoded base w other u n (drop w us)) (omega arith)
 
--- Where a number stands for itself and the shape's values are all that w digits can write, only cuts are left.
-pub literal-plain : {S : Type 0} (base : ℕ) (width : Shape → ℕ) (missing meaningless : ℕ) (spell : Spelling) (kind : S → Kind) (w u : ℕ)
+-- Fields of w units each, of which none can be at fault and each number stands for itself, spelled by u digits in another base.
+pub record Plain {S : Type 0} (F : Fixed) (spell : Spelling) (kind : S → Kind) (w other u : ℕ) : Type 0 where
+  pub wide : (s : S) → F .width (kind s .shape) ≡ w
+  pub means : (s : S) (x : ℕ) → x < F .base ^ w → F .meaning (kind s .shape) x ≡ some x
+  pub faultless : (s : S) (v : ℕ) → kind s .fault v ≡ 0
+  pub spells : (s : S) (v : ℕ) → spell (kind s) v ≡ digits other u v
+
+-- So it is where a number stands for itself and the shape's values are all that w digits can write.
+pub literal-plain : {S : Type 0} (base : ℕ) (width : Shape → ℕ) (missing meaningless : ℕ) (spell : Spelling) (kind : S → Kind) (w other u : ℕ)
     → ((s : S) → width (kind s .shape) ≡ w) → ((s : S) → values (kind s .shape) ≡ base ^ w)
-    → ((s : S) (v : ℕ) → kind s .fault v ≡ 0) → ((s : S) (v : ℕ) → length (spell (kind s) v) ≡ u)
-    → Plain (literal base width missing meaningless) spell kind w u
-literal-plain base width missing meaningless spell kind w u wide all faultless spells =
+    → ((s : S) (v : ℕ) → kind s .fault v ≡ 0) → ((s : S) (v : ℕ) → spell (kind s) v ≡ digits other u v)
+    → Plain (literal base width missing meaningless) spell kind w other u
+literal-plain base width missing meaningless spell kind w other u wide all faultless spells =
     record {
       wide = wide;
-      means = λ s x h. (x, ap (λ t. cond t (some x) none) (lt-ltb x (values (kind s .shape)) (rw (all s) h)));
+      means = λ s x h. ap (λ t. cond t (some x) none) (lt-ltb x (values (kind s .shape)) (rw (all s) h));
       faultless = faultless;
       spells = spells;
     }
 
-module _ {S R : Type 0} (F : Fixed) (spell : Spelling) (kind : S → Kind) (next : S → ℕ → S) (w u : ℕ) (P : Plain F spell kind w u) (K : Script R) where
+module _ {S R : Type 0} (F : Fixed) (spell : Spelling) (kind : S → Kind) (next : S → ℕ → S) (w other u : ℕ) (P : Plain F spell kind w other u) (K : Script R) where
   -- What n such fields come to, with what comes behind them.
   abbrev many-plain : ℕ → S → List ℕ → Outcome (List ℕ)
   many-plain n s us = translate (fixed F) spell (scriptMany (λ t k. ask (kind t) k) next n s (λ as′. K)) us
 
-  read-plain : (s : S) (us : List ℕ) → Below (F .base) us → w ≤ length us → (v : ℕ) × (fixed F .read (kind s) us ≡ found v (drop w us))
+  read-plain : (s : S) (us : List ℕ) → Below (F .base) us → w ≤ length us → fixed F .read (kind s) us ≡ found (number (F .base) (take w us)) (drop w us)
   read-plain s us b h =
       let long : length (take w us) ≡ w = simp length-take (omega arith) in
       let below : Below (F .base) (take w us) = below-front (F .base) (take w us) (drop w us) (rw take-append-drop b) in
       let m = P .means s (number (F .base) (take w us)) (rw long at (number-below (F .base) (take w us) below)) in
       let c : splitAt w us ≡ some (take w us, drop w us) = rw take-append-drop at (splitAt-append (take w us) (drop w us) w long) in
-      (m .0, rw (P .wide s, c, m .1, P .faultless s (m .0)))
+      rw (P .wide s, c, m, P .faultless s (number (F .base) (take w us)))
 
   -- The first m of m + n fields are spelled, and n are to come, by some state.
   record Begun (m n : ℕ) (s : S) (us : List ℕ) : Type 0 where
-    units : List ℕ
     state : S
-    long : length units ≡ m * u
-    says : many-plain (m + n) s us ≡ prefixed units (many-plain n state (drop (m * w) us))
+    says : many-plain (m + n) s us ≡ prefixed (recoded (F .base) w other u m us) (many-plain n state (drop (m * w) us))
 
-  begun-one-more : (m n : ℕ) (s : S) (v : ℕ) (us : List ℕ) → fixed F .read (kind s) us ≡ found v (drop w us) → Begun m n (next s v) (drop w us) → Begun (suc m) n s us
-  begun-one-more m n s v us r b =
+  begun-one-more : (m n : ℕ) (s : S) (us : List ℕ)
+      → fixed F .read (kind s) us ≡ found (number (F .base) (take w us)) (drop w us)
+      → Begun m n (next s (number (F .base) (take w us))) (drop w us) → Begun (suc m) n s us
+  begun-one-more m n s us r b =
       let e : suc m * w ≡ w + m * w = omega arith in
       record {
-        units = spell (kind s) v ++ b .units;
         state = b .state;
-        long = rw (length-append, P .spells s v, b .long) (omega arith);
-        says = rw (Nat.suc-add m n, r, b .says, e, drop-drop (m * w) w us) (prefixed-append (spell (kind s) v) (b .units) (many-plain n (b .state) (drop (w + m * w) us)));
+        says =
+            rw (Nat.suc-add m n, r, b .says, e, drop-drop (m * w) w us, P .spells s (number (F .base) (take w us)))
+            (prefixed-append
+            (digits other u (number (F .base) (take w us)))
+            (recoded (F .base) w other u m (drop w us))
+            (many-plain n (b .state) (drop (w + m * w) us)));
       }
 
   begun : (m n : ℕ) (s : S) (us : List ℕ) → Below (F .base) us → m * w ≤ length us → Begun m n s us
-  begun zero n s us b h =
-      record { units = []; state = s; long = omega arith; says = rw (Nat.zero-add, Nat.zero-mul) (sym (prefixed-nil (many-plain n s us))) }
+  begun zero n s us b h = record { state = s; says = rw (Nat.zero-add, Nat.zero-mul) (sym (prefixed-nil (many-plain n s us))) }
   begun (suc m) n s us b h =
-      let r = read-plain s us b (omega arith) in
       let behind : Below (F .base) (drop w us) = below-behind (F .base) (take w us) (drop w us) (rw take-append-drop b) in
-      begun-one-more m n s (r .0) us (r .1) (begun m n (next s (r .0)) (drop w us) behind (simp length-drop (omega arith)))
+      begun-one-more m n s us (read-plain s us b (omega arith))
+      (begun m n (next s (number (F .base) (take w us))) (drop w us) behind (simp length-drop (omega arith)))
 
   -- Where the units of all are there, all are spelled.
   pub translate-plain : (n : ℕ) (s : S) (us : List ℕ) → Below (F .base) us → n * w ≤ length us
-      → (ws : List ℕ) × (length ws ≡ n * u)
-      × (translate (fixed F) spell (scriptMany (λ t k. ask (kind t) k) next n s (λ as′. K)) us ≡ prefixed ws (translate (fixed F) spell K (drop (n * w) us)))
-  translate-plain n s us below h =
-      let b = begun n 0 s us below h in
-      (b .units, b .long, rw Nat.add-zero at (b .says))
+      → translate (fixed F) spell (scriptMany (λ t k. ask (kind t) k) next n s (λ as′. K)) us
+      ≡ prefixed (recoded (F .base) w other u n us) (translate (fixed F) spell K (drop (n * w) us))
+  translate-plain n s us below h = rw Nat.add-zero at (begun n 0 s us below h .says)
 
   -- Where they are not, the first field that does not fit is cut.
   pub translate-plain-cut : 0 < w → (n : ℕ) (s : S) (us : List ℕ) → Below (F .base) us → length us < n * w

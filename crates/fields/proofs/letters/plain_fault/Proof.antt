@@ -1,0 +1,19 @@
+-- `fields::letters::plain_fault` meets its contract, letter by letter.
+use mathlib.Core.Bool.{and-true, and-false, or-false}
+use borrow.Author.Needs.{needs}
+use borrow.Author.Tests.{ne-eqb}
+use Rattle.fields.proofs.letters.plain_fault.Statement.{statement}
+use Rattle.fields.proofs.letters.plain_fault.Tie as tie
+
+pub plain-fault-spec : {M : Type 1} → statement M
+plain-fault-spec =
+    tie.close
+    (tie.spec
+    (λ c κs. search needs)
+    (λ c κs. search needs)
+    (λ c. simp (c .match .keys1))
+    (λ c. simp (c .match .keys2))
+    (λ c. simp (c .match .keys3, and-false))
+    (λ c. simp (c .before .match .keys4, c .unless .ensures, and-true, and-false, or-false))
+    (λ c. simp (c .before .match .keys5, c .unless2 .ensures, and-true, and-false, or-false))
+    (λ c. let h0 = c .match .rest .1 in let h1 = c .match .rest .0 .1 in let h2 = c .match .rest .0 .0 .1 in let h3 = c .match .rest .0 .0 .0 .1 in let h4 = c .match .rest .0 .0 .0 .0 .1 in simp (ne-eqb, and-false)))

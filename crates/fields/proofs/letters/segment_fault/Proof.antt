@@ -1,0 +1,13 @@
+-- `fields::letters::segment_fault` meets its contract, letter by letter.
+use borrow.Author.Tests.{ne-eqb}
+use Rattle.fields.proofs.letters.segment_fault.Statement.{statement}
+use Rattle.fields.proofs.letters.segment_fault.Tie as tie
+
+pub segment-fault-spec : {M : Type 1} → statement M
+segment-fault-spec =
+    tie.close
+    (tie.spec
+    (λ c. simp (c .match .keys1))
+    (λ c. simp (c .match .keys2))
+    (λ c. simp (c .match .keys3))
+    (λ c. let h0 = c .match .rest .1 in let h1 = c .match .rest .0 .1 in let h2 = c .match .rest .0 .0 .1 in simp (ne-eqb)))

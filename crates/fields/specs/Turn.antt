@@ -1,0 +1,51 @@
+-- One field, read and judged at a place of a file: what the code's answer says.
+use mathlib.Core.Path.{_≡_}
+use mathlib.Core.Bool.{Bool, true, false, _||_}
+use Prim.Native.Nat.{ℕ, _+_, _<_, _≤_}
+use mathlib.Core.List.{List}
+use lib.Dec.{eqb}
+use lib.ListN.{length, take, drop}
+use Rattle.format.specs.Digits.{number}
+use Rattle.format.specs.Kind as K
+use Rattle.format.specs.Codec.{Outcome, found, refused}
+use Rattle.drawing.specs.Codecs.{bytes}
+use Rattle.fields.specs.declared.turn.Turn.{Turn}
+use Rattle.fields.specs.declared.turn.Turn.the-variants.{Value, Fault}
+
+-- The sizes of the fields that the code reads.
+abbrev pub isSize : ℕ → Bool
+isSize n = eqb n 1 || (eqb n 2 || (eqb n 4 || (eqb n 6 || eqb n 8)))
+
+abbrev pub isFlag : K.Shape → Bool
+isFlag K.flag = true
+isFlag K.byte = false
+isFlag K.char = false
+isFlag K.integer = false
+isFlag K.float = false
+isFlag K.double = false
+isFlag K.stringLength = false
+isFlag (K.stringChar last) = false
+isFlag (K.chars n) = false
+
+-- What the answer says that reading from the place comes to.
+abbrev pub turned : List ℕ → ℕ → K.Kind → Turn → Outcome ℕ
+turned bs at k (Value v) = found v (drop (at + K.size (k .shape)) bs)
+turned bs at k (Fault n) = refused n (drop at bs)
+
+-- The field is there, with an allowed value.
+pub record Stands (bs : List ℕ) (at : ℕ) (k : K.Kind) (v : ℕ) : Type 0 where
+  pub inside : at + K.size (k .shape) ≤ length bs
+  pub is : v ≡ number 256 (take (K.size (k .shape)) (drop at bs))
+  pub allowed : K.Allowed k v
+
+pub record Numbered (n : ℕ) : Type 0 where
+  pub positive : 0 < n
+  pub small : n < 32
+
+abbrev pub Beside : List ℕ → ℕ → K.Kind → Turn → Type 0
+Beside bs at k (Value v) = Stands bs at k v
+Beside bs at k (Fault n) = Numbered n
+
+pub record Turned (bs : List ℕ) (at : ℕ) (k : K.Kind) (t : Turn) : Type 0 where
+  pub reads : bytes .read k (drop at bs) ≡ turned bs at k t
+  pub beside : Beside bs at k t

@@ -1,0 +1,77 @@
+-- What reading one field rests on: when the codec's reading is cut, is refused and finds a value.
+use mathlib.Core.Path.{_≡_, refl}
+use mathlib.Core.Bool.{true, false, cond, true≢false, false≢true}
+use mathlib.Core.Option.{none, some}
+use Prim.Native.Nat.{ℕ, zero, suc, _+_, _-_, _^_, _<_, _≤_}
+use native.Mathlib.Omega.{arith}
+use mathlib.Core.List.{List}
+use borrow.Author.Tests.{ltb-true, ne-eqb, eqb-true}
+use lib.Dec.{ltb}
+use lib.ListN.{length, take, drop, length-drop, take-append-drop}
+use lib.Seq.{drop-drop, length-take-le}
+use Rattle.format.specs.Digits.{number}
+use Rattle.format.specs.Kind as K
+use Rattle.format.specs.FixedCodec.{fault, judged, splitAt, conclude, verdict}
+use Rattle.format.specs.FixedCodecLaws.{splitAt-append, splitAt-short}
+use Rattle.drawing.specs.Codecs.{byteFields, bytes}
+use Rattle.fields.specs.declared.turn.Turn.the-variants.{Value, Fault}
+use Rattle.fields.specs.Turn.{isSize, isFlag, Turned}
+
+pub size-eight : (n : ℕ) → isSize n ≡ true → (n ≡ 1 → ⊥) → (n ≡ 2 → ⊥) → (n ≡ 4 → ⊥) → (n ≡ 6 → ⊥) → n ≡ 8
+size-eight n e one two four six = eqb-true n 8 (simp ne-eqb at e)
+
+-- Only a flag has fewer values than its bytes can hold.
+pub flag-values : (s : K.Shape) → isFlag s ≡ true → K.values s ≡ 2
+flag-values K.flag e = refl
+flag-values K.byte e = absurd (false≢true e)
+flag-values K.char e = absurd (false≢true e)
+flag-values K.integer e = absurd (false≢true e)
+flag-values K.float e = absurd (false≢true e)
+flag-values K.double e = absurd (false≢true e)
+flag-values K.stringLength e = absurd (false≢true e)
+flag-values (K.stringChar last) e = absurd (false≢true e)
+flag-values (K.chars n) e = absurd (false≢true e)
+
+pub other-values : (s : K.Shape) → isFlag s ≡ false → K.values s ≡ 256 ^ K.size s
+other-values K.flag e = absurd (true≢false e)
+other-values K.byte e = refl
+other-values K.char e = refl
+other-values K.integer e = refl
+other-values K.float e = refl
+other-values K.double e = refl
+other-values K.stringLength e = refl
+other-values (K.stringChar last) e = refl
+other-values (K.chars n) e = refl
+
+judged-fault : (v n : ℕ) → (n ≡ 0 → ⊥) → judged v n ≡ fault n
+judged-fault v zero h = absurd (h refl)
+judged-fault v (suc n) h = refl
+
+module _ (bs : List ℕ) (at : ℕ) (k : K.Kind) where
+  pub turn-cut : length bs - at < K.size (k .shape) → Turned bs at k (Fault 2)
+  turn-cut h =
+      let short : length (drop at bs) < K.size (k .shape) = rw length-drop h in
+      record { reads = rw (splitAt-short (drop at bs) (K.size (k .shape)) short); beside = record { positive = omega arith; small = omega arith } }
+
+  module _ (v : ℕ) (inside : at + K.size (k .shape) ≤ length bs) (is : v ≡ number 256 (take (K.size (k .shape)) (drop at bs))) where
+    whole : bytes .read k (drop at bs) ≡ conclude (verdict byteFields k (cond (ltb v (K.values (k .shape))) (some v) none)) (drop at bs) (drop (at + K.size (k .shape)) bs)
+    whole =
+        let n = K.size (k .shape) in
+        let us = drop at bs in
+        let room : n ≤ length us = rw length-drop (omega arith) in
+        let parts : splitAt n us ≡ some (take n us, drop n us) = rw take-append-drop at (splitAt-append (take n us) (drop n us) n (length-take-le n us room)) in
+        rw (parts, ← is, drop-drop n at bs)
+
+    pub turn-meaningless : ltb v (K.values (k .shape)) ≡ false → Turned bs at k (Fault 5)
+    turn-meaningless h = record { reads = rw (whole, h); beside = record { positive = omega arith; small = omega arith } }
+
+    pub turn-fault : (n : ℕ) → ltb v (K.values (k .shape)) ≡ true → n ≡ k .fault v → (n ≡ 0 → ⊥) → n < 32 → Turned bs at k (Fault n)
+    turn-fault n h e p small =
+        record { reads = rw (whole, h, ← e, judged-fault v n p); beside = record { positive = omega arith; small = small } }
+
+    pub turn-value : ltb v (K.values (k .shape)) ≡ true → k .fault v ≡ 0 → Turned bs at k (Value v)
+    turn-value h e =
+        record {
+          reads = rw (whole, h, e);
+          beside = record { inside = inside; is = is; allowed = record { fits = ltb-true v (K.values (k .shape)) h; faultless = e } };
+        }

@@ -1,0 +1,9 @@
+pub mod Runs
+pub mod RunLaws
+pub mod Scans
+pub mod ScanLaws
+pub mod ObjectScans
+pub mod ParseLaws
+pub mod BodyLaws
+pub mod ObjectScanLaws
+pub mod MemberLaws
