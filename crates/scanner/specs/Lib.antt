@@ -7,3 +7,6 @@ pub mod ParseLaws
 pub mod BodyLaws
 pub mod ObjectScanLaws
 pub mod MemberLaws
+pub mod FileScans
+pub mod FileParseLaws
+pub mod FileScanLaws

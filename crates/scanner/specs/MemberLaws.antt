@@ -102,7 +102,7 @@ module _ (file : List ℕ) (v deep members from above before : ℕ) where
       members-again next more kept is =
           let done : ScannedObject file v deep at rs ws (Scan.Done next more kept) = rw is at scanned in
           let p : Passed (object v deep) rows (λ o. length (bodies o v)) file at rs ws next more kept =
-              passed (object v deep) rows (λ o. length (bodies o v)) file known at rs ws (on .placed .inside) next more kept (done .says) in
+          passed (object v deep) rows (λ o. length (bodies o v)) file known at rs ws (on .placed .inside) next more kept (done .says) in
           record {
             same =
                 first-left (left - 1) (omega arith)
@@ -171,7 +171,7 @@ module _ (file : List ℕ) (known : (i : ℕ) → Fits w8 (getD file i 0)) (v de
       pub group-stop : (n place : ℕ) → m ≡ Scan.Refused n place → ScannedGroup file v deep at rs ws (Scan.Refused n place)
       group-stop n place gone =
           let s : Stopped (repeat members (object v deep)) file (at + 4) n place =
-              stopped (repeat members (object v deep)) (λ os. rowsAll (ofList os)) (λ os. length (bodiesAll (ofList os) v)) file known (at + 4) rs (ws + 1) n place (sym gone ∙ scanned .says) in
+          stopped (repeat members (object v deep)) (λ os. rowsAll (ofList os)) (λ os. length (bodiesAll (ofList os) v)) file known (at + 4) rs (ws + 1) n place (sym gone ∙ scanned .says) in
           record {
             says =
                 ap (λ m. Scan.Refused n m) (s .offset-is)
@@ -187,7 +187,7 @@ module _ (file : List ℕ) (known : (i : ℕ) → Fits w8 (getD file i 0)) (v de
         group-end r s =
             let done : ScannedMembers file v deep members (at + 4) rs (ws + 1) (Scan.Done next more kept) = rw gone at scanned in
             let p : Passed (repeat members (object v deep)) (λ os. rowsAll (ofList os)) (λ os. length (bodiesAll (ofList os) v)) file (at + 4) rs (ws + 1) next more kept =
-                passed (repeat members (object v deep)) (λ os. rowsAll (ofList os)) (λ os. length (bodiesAll (ofList os) v)) file known (at + 4) rs (ws + 1) (group-members .inside) next more kept (done .says) in
+            passed (repeat members (object v deep)) (λ os. rowsAll (ofList os)) (λ os. length (bodiesAll (ofList os) v)) file known (at + 4) rs (ws + 1) (group-members .inside) next more kept (done .says) in
             record {
               says =
                   s .says

@@ -167,7 +167,7 @@ module _ (file : List ℕ) (known : (i : ℕ) → Fits w8 (getD file i 0)) (v de
       by zero e more s = absurd (omega arith)
       by (suc n) e more s =
           let may : bytes .read (objectId (isLeaf v) true) (drop at file) ≡ found (code "G") (drop (at + 2) file) =
-              ap (λ t. bytes .read (objectId (isLeaf v) t) (drop at file)) (sym (lt-ltb 0 (suc n) more)) ∙ e in
+          ap (λ t. bytes .read (objectId (isLeaf v) t) (drop at file)) (sym (lt-ltb 0 (suc n) more)) ∙ e in
           let s′ : ScannedGroup file v n (at + 2) (rs + 1) ws r = subst (λ m. ScannedGroup file v m (at + 2) (rs + 1) ws r) (sub-one n) s in
           record {
             says =
@@ -178,4 +178,3 @@ module _ (file : List ℕ) (known : (i : ℕ) → Fits w8 (getD file i 0)) (v de
           }
 
 -- ---- members
-

@@ -2,6 +2,7 @@
 use automaton::Expect;
 
 pub mod body;
+pub mod file;
 pub mod objects;
 pub mod steps;
 

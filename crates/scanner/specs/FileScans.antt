@@ -1,0 +1,53 @@
+-- What scanning a file comes to, by what reading it comes to.
+use mathlib.Core.Path.{_≡_}
+use Prim.Native.Nat.{ℕ, suc, _+_, _-_}
+use mathlib.Core.List.{List, [], _∷_}
+use lib.ListN.{length, drop}
+use Rattle.format.specs.Codec.{Outcome, found, refused, andThen}
+use Rattle.format.specs.Layout.{parse}
+use Rattle.drawing.specs.Codecs.{bytes}
+use Rattle.drawing.specs.String.{String}
+use Rattle.drawing.specs.Object.{group, Objects}
+use Rattle.drawing.specs.Fields.{versionLength, versionChars, versionZero}
+use Rattle.drawing.specs.Settings.{settings}
+use Rattle.drawing.specs.Drawing.{Drawing, outerGroup, Reading, drawing, refusal, reading, drawingOf}
+use Rattle.drawing.specs.Table.{rowsAll, bodies}
+use Rattle.drawing.specs.Answers.{rowsOf, wordCount}
+use Rattle.scanner.specs.declared.Scan.{Scan}
+use Rattle.scanner.specs.declared.Scan.the-variants as Scan
+
+-- A drawing's rows and words are counted, and the file is at its end.
+abbrev pub fileScan : (total : ℕ) → Reading → Scan
+fileScan total (drawing d) = Scan.Done total (rowsOf d) (wordCount d)
+fileScan total (refusal n offset) = Scan.Refused n offset
+
+-- The outer group, behind so many words: it has to end the file.
+abbrev pub outerScan : (total version words : ℕ) → Outcome (Objects × String) → Scan
+outerScan total v words (found (os, d) []) = Scan.Done total (suc (rowsAll os)) (words + length (bodies (group os d) v))
+outerScan total v words (found t (b ∷ rest)) = Scan.Refused 13 (total - length (b ∷ rest))
+outerScan total v words (refused n place) = Scan.Refused n (total - length place)
+
+-- A drawing of this version, from its settings on.
+abbrev pub fromSettings : ℕ → List ℕ → Outcome Drawing
+fromSettings v us =
+    andThen (parse bytes (settings v) us) (λ s rest.
+    andThen (parse bytes (outerGroup v) rest) (λ (members, description) rest₂.
+    found (record { version = v; settings = s; members = members; description = description }) rest₂))
+
+-- A drawing from its version's length on.
+abbrev pub fromVersion : List ℕ → Outcome Drawing
+fromVersion us =
+    andThen (bytes .read versionLength us) (λ three rest. andThen (bytes .read versionChars rest) (λ c rest₂. fromSettings (c - versionZero) rest₂))
+
+-- What each part of the scan of a file answers.
+pub record ScannedOuter (file : List ℕ) (version at words : ℕ) (r : Scan) : Type 0 where
+  pub says : r ≡ outerScan (length file) version words (parse bytes (outerGroup version) (drop at file))
+
+pub record ScannedSettings (file : List ℕ) (version at : ℕ) (r : Scan) : Type 0 where
+  pub says : r ≡ fileScan (length file) (reading (length file) (fromSettings version (drop at file)))
+
+pub record ScannedVersion (file : List ℕ) (at : ℕ) (r : Scan) : Type 0 where
+  pub says : r ≡ fileScan (length file) (reading (length file) (fromVersion (drop at file)))
+
+pub record ScannedFile (file : List ℕ) (r : Scan) : Type 0 where
+  pub says : r ≡ fileScan (length file) (drawingOf file)
