@@ -1,0 +1,5 @@
+pub mod Splice
+pub mod SpliceLaws
+pub mod RunStoreLaws
+pub mod Transformation
+pub mod StepLaws
