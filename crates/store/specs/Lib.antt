@@ -3,3 +3,4 @@ pub mod SpliceLaws
 pub mod RunStoreLaws
 pub mod Transformation
 pub mod StepLaws
+pub mod BodyLaws

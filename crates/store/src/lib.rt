@@ -1,6 +1,7 @@
 // The second pass of the reader: stores the rows and words of a file that the first pass has found good, into memory known to be enough.
 use automaton::Expect;
 
+pub mod body;
 pub mod steps;
 pub mod transformation;
 pub mod words;
