@@ -1,6 +1,10 @@
+pub mod Tests
 pub mod Splice
 pub mod SpliceLaws
 pub mod RunStoreLaws
 pub mod Transformation
 pub mod StepLaws
 pub mod BodyLaws
+pub mod Rows
+pub mod ObjectStores
+pub mod LeafStoreLaws

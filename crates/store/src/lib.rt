@@ -2,6 +2,8 @@
 use automaton::Expect;
 
 pub mod body;
+pub mod objects;
+pub mod rows;
 pub mod steps;
 pub mod transformation;
 pub mod words;
@@ -9,6 +11,13 @@ pub mod words;
 // A place in the file, and a place in the bodies.
 pub struct Cursor {
     pub at: usize,
+    pub to: usize,
+}
+
+// A place in the file, the next row, and a place in the bodies.
+pub struct Reach {
+    pub at: usize,
+    pub row: usize,
     pub to: usize,
 }
 

@@ -1,0 +1,789 @@
+use Prim.Native.Nat.{ℕ, _<_}
+use borrow.Fn.Kinds.{In}
+use borrow.Fn.PlainCycle.{Measures, is, falls, and}
+use Rattle.store.proofs.objects.store_group.Reads as store-group
+use Rattle.store.proofs.objects.store_group.Kinds as store-group-kinds
+use Rattle.store.proofs.objects.+store_group+store_members+store_object.Lts-store_group as store-group-lts
+use Rattle.store.proofs.objects.store_members.Reads as store-members
+use Rattle.store.proofs.objects.store_members.Kinds as store-members-kinds
+use Rattle.store.proofs.objects.+store_group+store_members+store_object.Lts-store_members as store-members-lts
+use Rattle.store.proofs.objects.store_object.Reads as store-object
+use Rattle.store.proofs.objects.store_object.Kinds as store-object-kinds
+use Rattle.store.proofs.objects.+store_group+store_members+store_object.Lts-store_object as store-object-lts
+use Rattle.automaton.proofs.after.leaf_start.Reads as leaf-start-reads
+use Rattle.format.proofs.decode.char_at.Reads as char-at-reads
+use Rattle.format.proofs.decode.word_at.Reads as word-at-reads
+use Rattle.store.proofs.body.store_body.Reads as store-body-reads
+use Rattle.store.proofs.rows.leaf_kind.Reads as leaf-kind-reads
+use Rattle.store.proofs.rows.store_row.Reads as store-row-reads
+use Rattle.store.proofs.words.store_word.Reads as store-word-reads
+use Rattle.store.proofs.objects.+store_group+store_members+store_object.{statement}
+use Rattle.store.proofs.objects.+store_group+store_members+store_object.Tie.{close}
+
+abbrev μ-store-group : Measures 3 store-group-kinds.ps ℕ
+μ-store-group κs a = ?
+
+abbrev μ-store-members : Measures 3 store-members-kinds.ps ℕ
+μ-store-members κs a = ?
+
+abbrev μ-store-object : Measures 3 store-object-kinds.ps ℕ
+μ-store-object κs a = ?
+
+abbrev store-group-at : ℕ → In 3 store-group-kinds.ps
+store-group-at t =
+    and 3 store-group-kinds.ps (is 3 store-group-kinds.ps μ-store-group t) store-group.Pre
+
+abbrev store-group-below : ℕ → In 3 store-group-kinds.ps
+store-group-below t =
+    and 3 store-group-kinds.ps (falls 3 store-group-kinds.ps _<_ μ-store-group t) store-group.Pre
+
+abbrev store-members-at : ℕ → In 3 store-members-kinds.ps
+store-members-at t =
+    and 3 store-members-kinds.ps (is 3 store-members-kinds.ps μ-store-members t) store-members.Pre
+
+abbrev store-members-below : ℕ → In 3 store-members-kinds.ps
+store-members-below t =
+    and
+    3
+    store-members-kinds.ps
+    (falls 3 store-members-kinds.ps _<_ μ-store-members t)
+    store-members.Pre
+
+abbrev store-object-at : ℕ → In 3 store-object-kinds.ps
+store-object-at t =
+    and 3 store-object-kinds.ps (is 3 store-object-kinds.ps μ-store-object t) store-object.Pre
+
+abbrev store-object-below : ℕ → In 3 store-object-kinds.ps
+store-object-below t =
+    and
+    3
+    store-object-kinds.ps
+    (falls 3 store-object-kinds.ps _<_ μ-store-object t)
+    store-object.Pre
+
+-- src/objects.rt:76:9
+store-group-word-at-requires : (t : ℕ) → store-group-lts.Need-word-at-requires (
+  word-at-reads.Asked,
+  word-at-reads.Learnt,
+  store-members-below t,
+  store-members.Post,
+  store-word-reads.Asked,
+  store-word-reads.Learnt,
+  store-body-reads.Asked,
+  store-body-reads.Learnt,
+  store-row-reads.Asked,
+  store-row-reads.Learnt,
+) (store-group-at t) store-group.Post
+store-group-word-at-requires t c κs = ?
+
+-- src/objects.rt:81:9
+store-group-cast-store-members : (t : ℕ) → store-group-lts.Need-cast-store-members (
+  word-at-reads.Asked,
+  word-at-reads.Learnt,
+  store-members-below t,
+  store-members.Post,
+  store-word-reads.Asked,
+  store-word-reads.Learnt,
+  store-body-reads.Asked,
+  store-body-reads.Learnt,
+  store-row-reads.Asked,
+  store-row-reads.Learnt,
+) (store-group-at t) store-group.Post
+store-group-cast-store-members t c = ?
+
+-- src/objects.rt:82:9
+store-group-add-store-members : (t : ℕ) → store-group-lts.Need-add-store-members (
+  word-at-reads.Asked,
+  word-at-reads.Learnt,
+  store-members-below t,
+  store-members.Post,
+  store-word-reads.Asked,
+  store-word-reads.Learnt,
+  store-body-reads.Asked,
+  store-body-reads.Learnt,
+  store-row-reads.Asked,
+  store-row-reads.Learnt,
+) (store-group-at t) store-group.Post
+store-group-add-store-members t c = ?
+
+-- src/objects.rt:84:9
+store-group-cast-store-members-2 : (t : ℕ) → store-group-lts.Need-cast-store-members-2 (
+  word-at-reads.Asked,
+  word-at-reads.Learnt,
+  store-members-below t,
+  store-members.Post,
+  store-word-reads.Asked,
+  store-word-reads.Learnt,
+  store-body-reads.Asked,
+  store-body-reads.Learnt,
+  store-row-reads.Asked,
+  store-row-reads.Learnt,
+) (store-group-at t) store-group.Post
+store-group-cast-store-members-2 t c = ?
+
+-- src/objects.rt:85:9
+store-group-add-store-members-2 : (t : ℕ) → store-group-lts.Need-add-store-members-2 (
+  word-at-reads.Asked,
+  word-at-reads.Learnt,
+  store-members-below t,
+  store-members.Post,
+  store-word-reads.Asked,
+  store-word-reads.Learnt,
+  store-body-reads.Asked,
+  store-body-reads.Learnt,
+  store-row-reads.Asked,
+  store-row-reads.Learnt,
+) (store-group-at t) store-group.Post
+store-group-add-store-members-2 t c = ?
+
+-- src/objects.rt:77:9
+store-group-store-members-requires : (t : ℕ) → store-group-lts.Need-store-members-requires (
+  word-at-reads.Asked,
+  word-at-reads.Learnt,
+  store-members-below t,
+  store-members.Post,
+  store-word-reads.Asked,
+  store-word-reads.Learnt,
+  store-body-reads.Asked,
+  store-body-reads.Learnt,
+  store-row-reads.Asked,
+  store-row-reads.Learnt,
+) (store-group-at t) store-group.Post
+store-group-store-members-requires t c κs = ?
+
+-- src/objects.rt:92:5
+store-group-store-word-requires : (t : ℕ) → store-group-lts.Need-store-word-requires (
+  word-at-reads.Asked,
+  word-at-reads.Learnt,
+  store-members-below t,
+  store-members.Post,
+  store-word-reads.Asked,
+  store-word-reads.Learnt,
+  store-body-reads.Asked,
+  store-body-reads.Learnt,
+  store-row-reads.Asked,
+  store-row-reads.Learnt,
+) (store-group-at t) store-group.Post
+store-group-store-word-requires t c κs = ?
+
+-- src/objects.rt:93:76
+store-group-add-store-body : (t : ℕ) → store-group-lts.Need-add-store-body (
+  word-at-reads.Asked,
+  word-at-reads.Learnt,
+  store-members-below t,
+  store-members.Post,
+  store-word-reads.Asked,
+  store-word-reads.Learnt,
+  store-body-reads.Asked,
+  store-body-reads.Learnt,
+  store-row-reads.Asked,
+  store-row-reads.Learnt,
+) (store-group-at t) store-group.Post
+store-group-add-store-body t c = ?
+
+-- src/objects.rt:93:9
+store-group-store-body-requires : (t : ℕ) → store-group-lts.Need-store-body-requires (
+  word-at-reads.Asked,
+  word-at-reads.Learnt,
+  store-members-below t,
+  store-members.Post,
+  store-word-reads.Asked,
+  store-word-reads.Learnt,
+  store-body-reads.Asked,
+  store-body-reads.Learnt,
+  store-row-reads.Asked,
+  store-row-reads.Learnt,
+) (store-group-at t) store-group.Post
+store-group-store-body-requires t c κs = ?
+
+-- src/objects.rt:96:41
+store-group-cast-store-row : (t : ℕ) → store-group-lts.Need-cast-store-row (
+  word-at-reads.Asked,
+  word-at-reads.Learnt,
+  store-members-below t,
+  store-members.Post,
+  store-word-reads.Asked,
+  store-word-reads.Learnt,
+  store-body-reads.Asked,
+  store-body-reads.Learnt,
+  store-row-reads.Asked,
+  store-row-reads.Learnt,
+) (store-group-at t) store-group.Post
+store-group-cast-store-row t c = ?
+
+-- src/objects.rt:96:56
+store-group-sub-store-row : (t : ℕ) → store-group-lts.Need-sub-store-row (
+  word-at-reads.Asked,
+  word-at-reads.Learnt,
+  store-members-below t,
+  store-members.Post,
+  store-word-reads.Asked,
+  store-word-reads.Learnt,
+  store-body-reads.Asked,
+  store-body-reads.Learnt,
+  store-row-reads.Asked,
+  store-row-reads.Learnt,
+) (store-group-at t) store-group.Post
+store-group-sub-store-row t c = ?
+
+-- src/objects.rt:96:55
+store-group-cast-store-row-2 : (t : ℕ) → store-group-lts.Need-cast-store-row-2 (
+  word-at-reads.Asked,
+  word-at-reads.Learnt,
+  store-members-below t,
+  store-members.Post,
+  store-word-reads.Asked,
+  store-word-reads.Learnt,
+  store-body-reads.Asked,
+  store-body-reads.Learnt,
+  store-row-reads.Asked,
+  store-row-reads.Learnt,
+) (store-group-at t) store-group.Post
+store-group-cast-store-row-2 t c = ?
+
+-- src/objects.rt:96:5
+store-group-store-row-requires : (t : ℕ) → store-group-lts.Need-store-row-requires (
+  word-at-reads.Asked,
+  word-at-reads.Learnt,
+  store-members-below t,
+  store-members.Post,
+  store-word-reads.Asked,
+  store-word-reads.Learnt,
+  store-body-reads.Asked,
+  store-body-reads.Learnt,
+  store-row-reads.Asked,
+  store-row-reads.Learnt,
+) (store-group-at t) store-group.Post
+store-group-store-row-requires t c κs = ?
+
+-- src/objects.rt:62:1
+store-group-same-length : (t : ℕ) → store-group-lts.Need-same-length (
+  word-at-reads.Asked,
+  word-at-reads.Learnt,
+  store-members-below t,
+  store-members.Post,
+  store-word-reads.Asked,
+  store-word-reads.Learnt,
+  store-body-reads.Asked,
+  store-body-reads.Learnt,
+  store-row-reads.Asked,
+  store-row-reads.Learnt,
+) (store-group-at t) store-group.Post
+store-group-same-length t c = ?
+
+-- src/objects.rt:62:1
+store-group-same-length-2 : (t : ℕ) → store-group-lts.Need-same-length-2 (
+  word-at-reads.Asked,
+  word-at-reads.Learnt,
+  store-members-below t,
+  store-members.Post,
+  store-word-reads.Asked,
+  store-word-reads.Learnt,
+  store-body-reads.Asked,
+  store-body-reads.Learnt,
+  store-row-reads.Asked,
+  store-row-reads.Learnt,
+) (store-group-at t) store-group.Post
+store-group-same-length-2 t c = ?
+
+-- src/objects.rt:62:1
+store-group-returns : (t : ℕ) → store-group-lts.Need-returns (
+  word-at-reads.Asked,
+  word-at-reads.Learnt,
+  store-members-below t,
+  store-members.Post,
+  store-word-reads.Asked,
+  store-word-reads.Learnt,
+  store-body-reads.Asked,
+  store-body-reads.Learnt,
+  store-row-reads.Asked,
+  store-row-reads.Learnt,
+) (store-group-at t) store-group.Post
+store-group-returns t c = ?
+
+abbrev store-members-Inv-loop : store-members-lts.InvT-loop
+store-members-Inv-loop file version deep members from contents₀ parent first bodies₀ start left₀ at₀ row₀ to₀ contents bodies left at row to =
+    ?
+
+abbrev store-members-μ-loop : store-members-lts.MeasureT-loop
+store-members-μ-loop file version deep members from contents₀ parent first bodies₀ start left₀ at₀ row₀ to₀ contents bodies left at row to =
+    ?
+
+-- src/objects.rt:123:5
+store-members-loop-holds : (t : ℕ) → store-members-lts.Need-loop-holds (
+  store-object-below t,
+  store-object.Post,
+) (store-members-at t) store-members.Post store-members-Inv-loop store-members-μ-loop
+store-members-loop-holds t c = ?
+
+-- src/objects.rt:124:13
+store-members-store-object-requires : (t : ℕ) → store-members-lts.Need-store-object-requires (
+  store-object-below t,
+  store-object.Post,
+) (store-members-at t) store-members.Post store-members-Inv-loop store-members-μ-loop
+store-members-store-object-requires t c κs = ?
+
+-- src/objects.rt:125:16
+store-members-sub-left : (t : ℕ) → store-members-lts.Need-sub-left (
+  store-object-below t,
+  store-object.Post,
+) (store-members-at t) store-members.Post store-members-Inv-loop store-members-μ-loop
+store-members-sub-left t c = ?
+
+-- src/objects.rt:123:5
+store-members-loop-less : (t : ℕ) → store-members-lts.Need-loop-less (
+  store-object-below t,
+  store-object.Post,
+) (store-members-at t) store-members.Post store-members-Inv-loop store-members-μ-loop
+store-members-loop-less t c = ?
+
+-- src/objects.rt:123:5
+store-members-loop-again : (t : ℕ) → store-members-lts.Need-loop-again (
+  store-object-below t,
+  store-object.Post,
+) (store-members-at t) store-members.Post store-members-Inv-loop store-members-μ-loop
+store-members-loop-again t c = ?
+
+-- src/objects.rt:104:1
+store-members-same-length : (t : ℕ) → store-members-lts.Need-same-length (
+  store-object-below t,
+  store-object.Post,
+) (store-members-at t) store-members.Post store-members-Inv-loop store-members-μ-loop
+store-members-same-length t c = ?
+
+-- src/objects.rt:104:1
+store-members-same-length-2 : (t : ℕ) → store-members-lts.Need-same-length-2 (
+  store-object-below t,
+  store-object.Post,
+) (store-members-at t) store-members.Post store-members-Inv-loop store-members-μ-loop
+store-members-same-length-2 t c = ?
+
+-- src/objects.rt:104:1
+store-members-returns : (t : ℕ) → store-members-lts.Need-returns (
+  store-object-below t,
+  store-object.Post,
+) (store-members-at t) store-members.Post store-members-Inv-loop store-members-μ-loop
+store-members-returns t c = ?
+
+-- src/objects.rt:29:9
+store-object-char-at-requires : (t : ℕ) → store-object-lts.Need-char-at-requires (
+  char-at-reads.Asked,
+  char-at-reads.Learnt,
+  store-group-below t,
+  store-group.Post,
+  leaf-start-reads.Asked,
+  leaf-start-reads.Learnt,
+  store-body-reads.Asked,
+  store-body-reads.Learnt,
+  leaf-kind-reads.Asked,
+  leaf-kind-reads.Learnt,
+  store-row-reads.Asked,
+  store-row-reads.Learnt,
+) (store-object-at t) store-object.Post
+store-object-char-at-requires t c κs = ?
+
+-- src/objects.rt:34:13
+store-object-sub-store-group : (t : ℕ) → store-object-lts.Need-sub-store-group (
+  char-at-reads.Asked,
+  char-at-reads.Learnt,
+  store-group-below t,
+  store-group.Post,
+  leaf-start-reads.Asked,
+  leaf-start-reads.Learnt,
+  store-body-reads.Asked,
+  store-body-reads.Learnt,
+  leaf-kind-reads.Asked,
+  leaf-kind-reads.Learnt,
+  store-row-reads.Asked,
+  store-row-reads.Learnt,
+) (store-object-at t) store-object.Post
+store-object-sub-store-group t c = ?
+
+-- src/objects.rt:35:13
+store-object-add-store-group : (t : ℕ) → store-object-lts.Need-add-store-group (
+  char-at-reads.Asked,
+  char-at-reads.Learnt,
+  store-group-below t,
+  store-group.Post,
+  leaf-start-reads.Asked,
+  leaf-start-reads.Learnt,
+  store-body-reads.Asked,
+  store-body-reads.Learnt,
+  leaf-kind-reads.Asked,
+  leaf-kind-reads.Learnt,
+  store-row-reads.Asked,
+  store-row-reads.Learnt,
+) (store-object-at t) store-object.Post
+store-object-add-store-group t c = ?
+
+-- src/objects.rt:31:9
+store-object-store-group-requires : (t : ℕ) → store-object-lts.Need-store-group-requires (
+  char-at-reads.Asked,
+  char-at-reads.Learnt,
+  store-group-below t,
+  store-group.Post,
+  leaf-start-reads.Asked,
+  leaf-start-reads.Learnt,
+  store-body-reads.Asked,
+  store-body-reads.Learnt,
+  leaf-kind-reads.Asked,
+  leaf-kind-reads.Learnt,
+  store-row-reads.Asked,
+  store-row-reads.Learnt,
+) (store-object-at t) store-object.Post
+store-object-store-group-requires t c κs = ?
+
+-- src/objects.rt:31:9
+store-object-same-length : (t : ℕ) → store-object-lts.Need-same-length (
+  char-at-reads.Asked,
+  char-at-reads.Learnt,
+  store-group-below t,
+  store-group.Post,
+  leaf-start-reads.Asked,
+  leaf-start-reads.Learnt,
+  store-body-reads.Asked,
+  store-body-reads.Learnt,
+  leaf-kind-reads.Asked,
+  leaf-kind-reads.Learnt,
+  store-row-reads.Asked,
+  store-row-reads.Learnt,
+) (store-object-at t) store-object.Post
+store-object-same-length t c = ?
+
+-- src/objects.rt:31:9
+store-object-same-length-2 : (t : ℕ) → store-object-lts.Need-same-length-2 (
+  char-at-reads.Asked,
+  char-at-reads.Learnt,
+  store-group-below t,
+  store-group.Post,
+  leaf-start-reads.Asked,
+  leaf-start-reads.Learnt,
+  store-body-reads.Asked,
+  store-body-reads.Learnt,
+  leaf-kind-reads.Asked,
+  leaf-kind-reads.Learnt,
+  store-row-reads.Asked,
+  store-row-reads.Learnt,
+) (store-object-at t) store-object.Post
+store-object-same-length-2 t c = ?
+
+-- src/objects.rt:31:9
+store-object-returns : (t : ℕ) → store-object-lts.Need-returns (
+  char-at-reads.Asked,
+  char-at-reads.Learnt,
+  store-group-below t,
+  store-group.Post,
+  leaf-start-reads.Asked,
+  leaf-start-reads.Learnt,
+  store-body-reads.Asked,
+  store-body-reads.Learnt,
+  leaf-kind-reads.Asked,
+  leaf-kind-reads.Learnt,
+  store-row-reads.Asked,
+  store-row-reads.Learnt,
+) (store-object-at t) store-object.Post
+store-object-returns t c = ?
+
+-- src/objects.rt:43:55
+store-object-cast-leaf-start : (t : ℕ) → store-object-lts.Need-cast-leaf-start (
+  char-at-reads.Asked,
+  char-at-reads.Learnt,
+  store-group-below t,
+  store-group.Post,
+  leaf-start-reads.Asked,
+  leaf-start-reads.Learnt,
+  store-body-reads.Asked,
+  store-body-reads.Learnt,
+  leaf-kind-reads.Asked,
+  leaf-kind-reads.Learnt,
+  store-row-reads.Asked,
+  store-row-reads.Learnt,
+) (store-object-at t) store-object.Post
+store-object-cast-leaf-start t c = ?
+
+-- src/objects.rt:43:44
+store-object-leaf-start-requires : (t : ℕ) → store-object-lts.Need-leaf-start-requires (
+  char-at-reads.Asked,
+  char-at-reads.Learnt,
+  store-group-below t,
+  store-group.Post,
+  leaf-start-reads.Asked,
+  leaf-start-reads.Learnt,
+  store-body-reads.Asked,
+  store-body-reads.Learnt,
+  leaf-kind-reads.Asked,
+  leaf-kind-reads.Learnt,
+  store-row-reads.Asked,
+  store-row-reads.Learnt,
+) (store-object-at t) store-object.Post
+store-object-leaf-start-requires t c κs = ?
+
+-- src/objects.rt:43:71
+store-object-add-store-body : (t : ℕ) → store-object-lts.Need-add-store-body (
+  char-at-reads.Asked,
+  char-at-reads.Learnt,
+  store-group-below t,
+  store-group.Post,
+  leaf-start-reads.Asked,
+  leaf-start-reads.Learnt,
+  store-body-reads.Asked,
+  store-body-reads.Learnt,
+  leaf-kind-reads.Asked,
+  leaf-kind-reads.Learnt,
+  store-row-reads.Asked,
+  store-row-reads.Learnt,
+) (store-object-at t) store-object.Post
+store-object-add-store-body t c = ?
+
+-- src/objects.rt:43:9
+store-object-store-body-requires : (t : ℕ) → store-object-lts.Need-store-body-requires (
+  char-at-reads.Asked,
+  char-at-reads.Learnt,
+  store-group-below t,
+  store-group.Post,
+  leaf-start-reads.Asked,
+  leaf-start-reads.Learnt,
+  store-body-reads.Asked,
+  store-body-reads.Learnt,
+  leaf-kind-reads.Asked,
+  leaf-kind-reads.Learnt,
+  store-row-reads.Asked,
+  store-row-reads.Learnt,
+) (store-object-at t) store-object.Post
+store-object-store-body-requires t c κs = ?
+
+-- src/objects.rt:49:9
+store-object-leaf-kind-requires : (t : ℕ) → store-object-lts.Need-leaf-kind-requires (
+  char-at-reads.Asked,
+  char-at-reads.Learnt,
+  store-group-below t,
+  store-group.Post,
+  leaf-start-reads.Asked,
+  leaf-start-reads.Learnt,
+  store-body-reads.Asked,
+  store-body-reads.Learnt,
+  leaf-kind-reads.Asked,
+  leaf-kind-reads.Learnt,
+  store-row-reads.Asked,
+  store-row-reads.Learnt,
+) (store-object-at t) store-object.Post
+store-object-leaf-kind-requires t c κs = ?
+
+-- src/objects.rt:51:9
+store-object-cast-store-row : (t : ℕ) → store-object-lts.Need-cast-store-row (
+  char-at-reads.Asked,
+  char-at-reads.Learnt,
+  store-group-below t,
+  store-group.Post,
+  leaf-start-reads.Asked,
+  leaf-start-reads.Learnt,
+  store-body-reads.Asked,
+  store-body-reads.Learnt,
+  leaf-kind-reads.Asked,
+  leaf-kind-reads.Learnt,
+  store-row-reads.Asked,
+  store-row-reads.Learnt,
+) (store-object-at t) store-object.Post
+store-object-cast-store-row t c = ?
+
+-- src/objects.rt:52:10
+store-object-sub-store-row : (t : ℕ) → store-object-lts.Need-sub-store-row (
+  char-at-reads.Asked,
+  char-at-reads.Learnt,
+  store-group-below t,
+  store-group.Post,
+  leaf-start-reads.Asked,
+  leaf-start-reads.Learnt,
+  store-body-reads.Asked,
+  store-body-reads.Learnt,
+  leaf-kind-reads.Asked,
+  leaf-kind-reads.Learnt,
+  store-row-reads.Asked,
+  store-row-reads.Learnt,
+) (store-object-at t) store-object.Post
+store-object-sub-store-row t c = ?
+
+-- src/objects.rt:52:9
+store-object-cast-store-row-2 : (t : ℕ) → store-object-lts.Need-cast-store-row-2 (
+  char-at-reads.Asked,
+  char-at-reads.Learnt,
+  store-group-below t,
+  store-group.Post,
+  leaf-start-reads.Asked,
+  leaf-start-reads.Learnt,
+  store-body-reads.Asked,
+  store-body-reads.Learnt,
+  leaf-kind-reads.Asked,
+  leaf-kind-reads.Learnt,
+  store-row-reads.Asked,
+  store-row-reads.Learnt,
+) (store-object-at t) store-object.Post
+store-object-cast-store-row-2 t c = ?
+
+-- src/objects.rt:46:5
+store-object-store-row-requires : (t : ℕ) → store-object-lts.Need-store-row-requires (
+  char-at-reads.Asked,
+  char-at-reads.Learnt,
+  store-group-below t,
+  store-group.Post,
+  leaf-start-reads.Asked,
+  leaf-start-reads.Learnt,
+  store-body-reads.Asked,
+  store-body-reads.Learnt,
+  leaf-kind-reads.Asked,
+  leaf-kind-reads.Learnt,
+  store-row-reads.Asked,
+  store-row-reads.Learnt,
+) (store-object-at t) store-object.Post
+store-object-store-row-requires t c κs = ?
+
+-- src/objects.rt:56:14
+store-object-add-t23 : (t : ℕ) → store-object-lts.Need-add-t23 (
+  char-at-reads.Asked,
+  char-at-reads.Learnt,
+  store-group-below t,
+  store-group.Post,
+  leaf-start-reads.Asked,
+  leaf-start-reads.Learnt,
+  store-body-reads.Asked,
+  store-body-reads.Learnt,
+  leaf-kind-reads.Asked,
+  leaf-kind-reads.Learnt,
+  store-row-reads.Asked,
+  store-row-reads.Learnt,
+) (store-object-at t) store-object.Post
+store-object-add-t23 t c = ?
+
+-- src/objects.rt:15:1
+store-object-same-length-3 : (t : ℕ) → store-object-lts.Need-same-length-3 (
+  char-at-reads.Asked,
+  char-at-reads.Learnt,
+  store-group-below t,
+  store-group.Post,
+  leaf-start-reads.Asked,
+  leaf-start-reads.Learnt,
+  store-body-reads.Asked,
+  store-body-reads.Learnt,
+  leaf-kind-reads.Asked,
+  leaf-kind-reads.Learnt,
+  store-row-reads.Asked,
+  store-row-reads.Learnt,
+) (store-object-at t) store-object.Post
+store-object-same-length-3 t c = ?
+
+-- src/objects.rt:15:1
+store-object-same-length-4 : (t : ℕ) → store-object-lts.Need-same-length-4 (
+  char-at-reads.Asked,
+  char-at-reads.Learnt,
+  store-group-below t,
+  store-group.Post,
+  leaf-start-reads.Asked,
+  leaf-start-reads.Learnt,
+  store-body-reads.Asked,
+  store-body-reads.Learnt,
+  leaf-kind-reads.Asked,
+  leaf-kind-reads.Learnt,
+  store-row-reads.Asked,
+  store-row-reads.Learnt,
+) (store-object-at t) store-object.Post
+store-object-same-length-4 t c = ?
+
+-- src/objects.rt:15:1
+store-object-returns-2 : (t : ℕ) → store-object-lts.Need-returns-2 (
+  char-at-reads.Asked,
+  char-at-reads.Learnt,
+  store-group-below t,
+  store-group.Post,
+  leaf-start-reads.Asked,
+  leaf-start-reads.Learnt,
+  store-body-reads.Asked,
+  store-body-reads.Learnt,
+  leaf-kind-reads.Asked,
+  leaf-kind-reads.Learnt,
+  store-row-reads.Asked,
+  store-row-reads.Learnt,
+) (store-object-at t) store-object.Post
+store-object-returns-2 t c = ?
+
+pub +store-group+store-members+store-object-spec : {M : Type 1} → statement M
++store-group+store-members+store-object-spec =
+    close μ-store-group μ-store-members μ-store-object (λ t. store-group-lts.spec (
+      word-at-reads.Asked,
+      word-at-reads.Learnt,
+      store-members-below t,
+      store-members.Post,
+      store-word-reads.Asked,
+      store-word-reads.Learnt,
+      store-body-reads.Asked,
+      store-body-reads.Learnt,
+      store-row-reads.Asked,
+      store-row-reads.Learnt,
+    )
+    (store-group-at t)
+    store-group.Post
+    (store-group-word-at-requires t)
+    (store-group-cast-store-members t)
+    (store-group-add-store-members t)
+    (store-group-cast-store-members-2 t)
+    (store-group-add-store-members-2 t)
+    (store-group-store-members-requires t)
+    (store-group-store-word-requires t)
+    (store-group-add-store-body t)
+    (store-group-store-body-requires t)
+    (store-group-cast-store-row t)
+    (store-group-sub-store-row t)
+    (store-group-cast-store-row-2 t)
+    (store-group-store-row-requires t)
+    (store-group-same-length t)
+    (store-group-same-length-2 t)
+    (store-group-returns t))
+    (λ t. store-members-lts.spec
+    (store-object-below t, store-object.Post)
+    (store-members-at t)
+    store-members.Post
+    store-members-Inv-loop
+    store-members-μ-loop
+    (store-members-loop-holds t)
+    (store-members-store-object-requires t)
+    (store-members-sub-left t)
+    (store-members-loop-less t)
+    (store-members-loop-again t)
+    (store-members-same-length t)
+    (store-members-same-length-2 t)
+    (store-members-returns t))
+    λ t. store-object-lts.spec (
+      char-at-reads.Asked,
+      char-at-reads.Learnt,
+      store-group-below t,
+      store-group.Post,
+      leaf-start-reads.Asked,
+      leaf-start-reads.Learnt,
+      store-body-reads.Asked,
+      store-body-reads.Learnt,
+      leaf-kind-reads.Asked,
+      leaf-kind-reads.Learnt,
+      store-row-reads.Asked,
+      store-row-reads.Learnt,
+    )
+    (store-object-at t)
+    store-object.Post
+    (store-object-char-at-requires t)
+    (store-object-sub-store-group t)
+    (store-object-add-store-group t)
+    (store-object-store-group-requires t)
+    (store-object-same-length t)
+    (store-object-same-length-2 t)
+    (store-object-returns t)
+    (store-object-cast-leaf-start t)
+    (store-object-leaf-start-requires t)
+    (store-object-add-store-body t)
+    (store-object-store-body-requires t)
+    (store-object-leaf-kind-requires t)
+    (store-object-cast-store-row t)
+    (store-object-sub-store-row t)
+    (store-object-cast-store-row-2 t)
+    (store-object-store-row-requires t)
+    (store-object-add-t23 t)
+    (store-object-same-length-3 t)
+    (store-object-same-length-4 t)
+    (store-object-returns-2 t)
