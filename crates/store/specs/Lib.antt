@@ -8,3 +8,5 @@ pub mod BodyLaws
 pub mod Rows
 pub mod ObjectStores
 pub mod LeafStoreLaws
+pub mod MemberStoreLaws
+pub mod GroupStoreLaws

@@ -1,4 +1,10 @@
-use Prim.Native.Nat.{ℕ, _<_}
+use Rattle.store.specs.GroupStoreLaws.{group-inside, group-row, group-members, group-start, group-end, group-size, group-stored}
+use Rattle.store.specs.MemberStoreLaws.{Onward, members-begin, members-end, first-storable, members-again}
+use Rattle.store.specs.LeafStoreLaws.{id-inside, id-char, deeper, group-storable, leaf-storable, leaf-row, leaf-end, leaf-stored}
+use Rattle.store.specs.LeafStoreLaws as L
+use native.Mathlib.Omega.{arith}
+use borrow.Author.Needs.{needs}
+use Prim.Native.Nat.{ℕ, _+_, _*_, _<_}
 use borrow.Fn.Kinds.{In}
 use borrow.Fn.PlainCycle.{Measures, is, falls, and}
 use Rattle.store.proofs.objects.store_group.Reads as store-group
@@ -21,13 +27,13 @@ use Rattle.store.proofs.objects.+store_group+store_members+store_object
 use Rattle.store.proofs.objects.+store_group+store_members+store_object.Tie.{close}
 
 abbrev μ-store-group : Measures 3 store-group-kinds.ps ℕ
-μ-store-group κs a = ?
+μ-store-group κs a = 3 * a .1 .1 .0 + 2
 
 abbrev μ-store-members : Measures 3 store-members-kinds.ps ℕ
-μ-store-members κs a = ?
+μ-store-members κs a = 3 * a .1 .1 .0 + 1
 
 abbrev μ-store-object : Measures 3 store-object-kinds.ps ℕ
-μ-store-object κs a = ?
+μ-store-object κs a = 3 * a .1 .1 .0
 
 abbrev store-group-at : ℕ → In 3 store-group-kinds.ps
 store-group-at t =
@@ -74,7 +80,7 @@ store-group-word-at-requires : (t : ℕ) → store-group-lts.Need-word-at-requir
   store-row-reads.Asked,
   store-row-reads.Learnt,
 ) (store-group-at t) store-group.Post
-store-group-word-at-requires t c κs = ?
+store-group-word-at-requires t c κs = group-inside (c .before .before .before .args .file .now) (c .before .before .shared-slice-known .given) (c .before .before .before .args .version) (c .before .before .before .args .deep) (c .before .before .before .args .at) (c .before .before .before .args .row) (c .before .before .before .args .to) (c .before .before .before .args .contents .now) (c .before .before .before .args .bodies .now) (c .before .before .before .pre .1)
 
 -- src/objects.rt:81:9
 store-group-cast-store-members : (t : ℕ) → store-group-lts.Need-cast-store-members (
@@ -89,7 +95,7 @@ store-group-cast-store-members : (t : ℕ) → store-group-lts.Need-cast-store-m
   store-row-reads.Asked,
   store-row-reads.Learnt,
 ) (store-group-at t) store-group.Post
-store-group-cast-store-members t c = ?
+store-group-cast-store-members t c = omega (arith, group-inside (c .before .before .before .before .args .file .now) (c .before .before .before .shared-slice-known .given) (c .before .before .before .before .args .version) (c .before .before .before .before .args .deep) (c .before .before .before .before .args .at) (c .before .before .before .before .args .row) (c .before .before .before .before .args .to) (c .before .before .before .before .args .contents .now) (c .before .before .before .before .args .bodies .now) (c .before .before .before .before .pre .1), group-row (c .before .before .before .before .args .file .now) (c .before .before .before .shared-slice-known .given) (c .before .before .before .before .args .version) (c .before .before .before .before .args .deep) (c .before .before .before .before .args .at) (c .before .before .before .before .args .row) (c .before .before .before .before .args .to) (c .before .before .before .before .args .contents .now) (c .before .before .before .before .args .bodies .now) (c .before .before .before .before .pre .1) .1)
 
 -- src/objects.rt:82:9
 store-group-add-store-members : (t : ℕ) → store-group-lts.Need-add-store-members (
@@ -104,7 +110,7 @@ store-group-add-store-members : (t : ℕ) → store-group-lts.Need-add-store-mem
   store-row-reads.Asked,
   store-row-reads.Learnt,
 ) (store-group-at t) store-group.Post
-store-group-add-store-members t c = ?
+store-group-add-store-members t c = omega (arith, group-inside (c .before .before .before .before .args .file .now) (c .before .before .before .shared-slice-known .given) (c .before .before .before .before .args .version) (c .before .before .before .before .args .deep) (c .before .before .before .before .args .at) (c .before .before .before .before .args .row) (c .before .before .before .before .args .to) (c .before .before .before .before .args .contents .now) (c .before .before .before .before .args .bodies .now) (c .before .before .before .before .pre .1), group-row (c .before .before .before .before .args .file .now) (c .before .before .before .shared-slice-known .given) (c .before .before .before .before .args .version) (c .before .before .before .before .args .deep) (c .before .before .before .before .args .at) (c .before .before .before .before .args .row) (c .before .before .before .before .args .to) (c .before .before .before .before .args .contents .now) (c .before .before .before .before .args .bodies .now) (c .before .before .before .before .pre .1) .1)
 
 -- src/objects.rt:84:9
 store-group-cast-store-members-2 : (t : ℕ) → store-group-lts.Need-cast-store-members-2 (
@@ -119,7 +125,7 @@ store-group-cast-store-members-2 : (t : ℕ) → store-group-lts.Need-cast-store
   store-row-reads.Asked,
   store-row-reads.Learnt,
 ) (store-group-at t) store-group.Post
-store-group-cast-store-members-2 t c = ?
+store-group-cast-store-members-2 t c = omega (arith, group-inside (c .before .before .before .before .before .args .file .now) (c .before .before .before .before .shared-slice-known .given) (c .before .before .before .before .before .args .version) (c .before .before .before .before .before .args .deep) (c .before .before .before .before .before .args .at) (c .before .before .before .before .before .args .row) (c .before .before .before .before .before .args .to) (c .before .before .before .before .before .args .contents .now) (c .before .before .before .before .before .args .bodies .now) (c .before .before .before .before .before .pre .1), group-row (c .before .before .before .before .before .args .file .now) (c .before .before .before .before .shared-slice-known .given) (c .before .before .before .before .before .args .version) (c .before .before .before .before .before .args .deep) (c .before .before .before .before .before .args .at) (c .before .before .before .before .before .args .row) (c .before .before .before .before .before .args .to) (c .before .before .before .before .before .args .contents .now) (c .before .before .before .before .before .args .bodies .now) (c .before .before .before .before .before .pre .1) .1)
 
 -- src/objects.rt:85:9
 store-group-add-store-members-2 : (t : ℕ) → store-group-lts.Need-add-store-members-2 (
@@ -134,7 +140,7 @@ store-group-add-store-members-2 : (t : ℕ) → store-group-lts.Need-add-store-m
   store-row-reads.Asked,
   store-row-reads.Learnt,
 ) (store-group-at t) store-group.Post
-store-group-add-store-members-2 t c = ?
+store-group-add-store-members-2 t c = omega (arith, group-inside (c .before .before .before .before .before .args .file .now) (c .before .before .before .before .shared-slice-known .given) (c .before .before .before .before .before .args .version) (c .before .before .before .before .before .args .deep) (c .before .before .before .before .before .args .at) (c .before .before .before .before .before .args .row) (c .before .before .before .before .before .args .to) (c .before .before .before .before .before .args .contents .now) (c .before .before .before .before .before .args .bodies .now) (c .before .before .before .before .before .pre .1), group-row (c .before .before .before .before .before .args .file .now) (c .before .before .before .before .shared-slice-known .given) (c .before .before .before .before .before .args .version) (c .before .before .before .before .before .args .deep) (c .before .before .before .before .before .args .at) (c .before .before .before .before .before .args .row) (c .before .before .before .before .before .args .to) (c .before .before .before .before .before .args .contents .now) (c .before .before .before .before .before .args .bodies .now) (c .before .before .before .before .before .pre .1) .1)
 
 -- src/objects.rt:77:9
 store-group-store-members-requires : (t : ℕ) → store-group-lts.Need-store-members-requires (
@@ -149,7 +155,7 @@ store-group-store-members-requires : (t : ℕ) → store-group-lts.Need-store-me
   store-row-reads.Asked,
   store-row-reads.Learnt,
 ) (store-group-at t) store-group.Post
-store-group-store-members-requires t c κs = ?
+store-group-store-members-requires t c κs = (omega (arith, c .before .before .before .before .before .before .pre .0), group-members (c .before .before .before .before .before .before .args .file .now) (c .before .before .before .before .before .shared-slice-known .given) (c .before .before .before .before .before .before .args .version) (c .before .before .before .before .before .before .args .deep) (c .before .before .before .before .before .before .args .at) (c .before .before .before .before .before .before .args .row) (c .before .before .before .before .before .before .args .to) (c .before .before .before .before .before .before .args .contents .now) (c .before .before .before .before .before .before .args .bodies .now) (c .before .before .before .before .before .before .pre .1) (c .before .before .word-at .result) (c .before .before .word-at .ensures))
 
 -- src/objects.rt:92:5
 store-group-store-word-requires : (t : ℕ) → store-group-lts.Need-store-word-requires (
@@ -164,7 +170,7 @@ store-group-store-word-requires : (t : ℕ) → store-group-lts.Need-store-word-
   store-row-reads.Asked,
   store-row-reads.Learnt,
 ) (store-group-at t) store-group.Post
-store-group-store-word-requires t c κs = ?
+store-group-store-word-requires t c κs = group-start (c .before .before .before .before .before .before .before .before .before .before .before .before .args .file .now) (c .before .before .before .before .before .before .before .before .before .before .before .shared-slice-known .given) (c .before .before .before .before .before .before .before .before .before .before .before .before .args .version) (c .before .before .before .before .before .before .before .before .before .before .before .before .args .deep) (c .before .before .before .before .before .before .before .before .before .before .before .before .args .at) (c .before .before .before .before .before .before .before .before .before .before .before .before .args .row) (c .before .before .before .before .before .before .before .before .before .before .before .before .args .to) (c .before .before .before .before .before .before .before .before .before .before .before .before .args .contents .now) (c .before .before .before .before .before .before .before .before .before .before .before .before .args .bodies .now) (c .before .before .before .before .before .before .before .before .before .before .before .before .pre .1) (c .before .before .before .before .before .before .before .before .word-at .result) (c .before .before .before .before .before .before .before .before .word-at .ensures) (c .before .before .before .before .before .store-members .last .1 .1 .1 .1 .1 .0) (c .before .before .before .before .before .store-members .last .1 .1 .1 .1 .1 .1 .1 .1 .0) (c .before .before .before .before .before .store-members .result) (c .before .before .before .before .before .store-members .ensures) .0
 
 -- src/objects.rt:93:76
 store-group-add-store-body : (t : ℕ) → store-group-lts.Need-add-store-body (
@@ -179,7 +185,7 @@ store-group-add-store-body : (t : ℕ) → store-group-lts.Need-add-store-body (
   store-row-reads.Asked,
   store-row-reads.Learnt,
 ) (store-group-at t) store-group.Post
-store-group-add-store-body t c = ?
+store-group-add-store-body t c = omega (arith, group-start (c .before .before .before .before .before .before .before .before .before .before .before .before .before .before .before .before .args .file .now) (c .before .before .before .before .before .before .before .before .before .before .before .before .before .before .before .shared-slice-known .given) (c .before .before .before .before .before .before .before .before .before .before .before .before .before .before .before .before .args .version) (c .before .before .before .before .before .before .before .before .before .before .before .before .before .before .before .before .args .deep) (c .before .before .before .before .before .before .before .before .before .before .before .before .before .before .before .before .args .at) (c .before .before .before .before .before .before .before .before .before .before .before .before .before .before .before .before .args .row) (c .before .before .before .before .before .before .before .before .before .before .before .before .before .before .before .before .args .to) (c .before .before .before .before .before .before .before .before .before .before .before .before .before .before .before .before .args .contents .now) (c .before .before .before .before .before .before .before .before .before .before .before .before .before .before .before .before .args .bodies .now) (c .before .before .before .before .before .before .before .before .before .before .before .before .before .before .before .before .pre .1) (c .before .before .before .before .before .before .before .before .before .before .before .before .word-at .result) (c .before .before .before .before .before .before .before .before .before .before .before .before .word-at .ensures) (c .before .before .before .before .before .before .before .before .before .store-members .last .1 .1 .1 .1 .1 .0) (c .before .before .before .before .before .before .before .before .before .store-members .last .1 .1 .1 .1 .1 .1 .1 .1 .0) (c .before .before .before .before .before .before .before .before .before .store-members .result) (c .before .before .before .before .before .before .before .before .before .store-members .ensures) .1)
 
 -- src/objects.rt:93:9
 store-group-store-body-requires : (t : ℕ) → store-group-lts.Need-store-body-requires (
@@ -194,7 +200,7 @@ store-group-store-body-requires : (t : ℕ) → store-group-lts.Need-store-body-
   store-row-reads.Asked,
   store-row-reads.Learnt,
 ) (store-group-at t) store-group.Post
-store-group-store-body-requires t c κs = ?
+store-group-store-body-requires t c κs = group-end (c .before .before .before .before .before .before .before .before .before .before .before .before .before .before .before .before .args .file .now) (c .before .before .before .before .before .before .before .before .before .before .before .before .before .before .before .shared-slice-known .given) (c .before .before .before .before .before .before .before .before .before .before .before .before .before .before .before .before .args .version) (c .before .before .before .before .before .before .before .before .before .before .before .before .before .before .before .before .args .deep) (c .before .before .before .before .before .before .before .before .before .before .before .before .before .before .before .before .args .at) (c .before .before .before .before .before .before .before .before .before .before .before .before .before .before .before .before .args .row) (c .before .before .before .before .before .before .before .before .before .before .before .before .before .before .before .before .args .to) (c .before .before .before .before .before .before .before .before .before .before .before .before .before .before .before .before .args .contents .now) (c .before .before .before .before .before .before .before .before .before .before .before .before .before .before .before .before .args .bodies .now) (c .before .before .before .before .before .before .before .before .before .before .before .before .before .before .before .before .pre .1) (c .before .before .before .before .before .before .before .before .before .before .before .before .word-at .result) (c .before .before .before .before .before .before .before .before .before .before .before .before .word-at .ensures) (c .before .before .before .before .before .before .before .before .before .store-members .last .1 .1 .1 .1 .1 .0) (c .before .before .before .before .before .before .before .before .before .store-members .last .1 .1 .1 .1 .1 .1 .1 .1 .0) (c .before .before .before .before .before .before .before .before .before .store-members .result) (c .before .before .before .before .before .before .before .before .before .store-members .ensures) (c .before .before .before .store-word .last .0) (c .before .before .before .store-word .ensures)
 
 -- src/objects.rt:96:41
 store-group-cast-store-row : (t : ℕ) → store-group-lts.Need-cast-store-row (
@@ -209,7 +215,7 @@ store-group-cast-store-row : (t : ℕ) → store-group-lts.Need-cast-store-row (
   store-row-reads.Asked,
   store-row-reads.Learnt,
 ) (store-group-at t) store-group.Post
-store-group-cast-store-row t c = ?
+store-group-cast-store-row t c = let s = group-size (c .before .before .before .before .before .before .before .before .before .before .before .before .before .before .before .before .before .before .before .before .args .file .now) (c .before .before .before .before .before .before .before .before .before .before .before .before .before .before .before .before .before .before .before .shared-slice-known .given) (c .before .before .before .before .before .before .before .before .before .before .before .before .before .before .before .before .before .before .before .before .args .version) (c .before .before .before .before .before .before .before .before .before .before .before .before .before .before .before .before .before .before .before .before .args .deep) (c .before .before .before .before .before .before .before .before .before .before .before .before .before .before .before .before .before .before .before .before .args .at) (c .before .before .before .before .before .before .before .before .before .before .before .before .before .before .before .before .before .before .before .before .args .row) (c .before .before .before .before .before .before .before .before .before .before .before .before .before .before .before .before .before .before .before .before .args .to) (c .before .before .before .before .before .before .before .before .before .before .before .before .before .before .before .before .before .before .before .before .args .contents .now) (c .before .before .before .before .before .before .before .before .before .before .before .before .before .before .before .before .before .before .before .before .args .bodies .now) (c .before .before .before .before .before .before .before .before .before .before .before .before .before .before .before .before .before .before .before .before .pre .1) (c .before .before .before .before .before .before .before .before .before .before .before .before .before .before .before .before .word-at .result) (c .before .before .before .before .before .before .before .before .before .before .before .before .before .before .before .before .word-at .ensures) (c .before .before .before .before .before .before .before .before .before .before .before .before .before .store-members .last .1 .1 .1 .1 .1 .0) (c .before .before .before .before .before .before .before .before .before .before .before .before .before .store-members .last .1 .1 .1 .1 .1 .1 .1 .1 .0) (c .before .before .before .before .before .before .before .before .before .before .before .before .before .store-members .result) (c .before .before .before .before .before .before .before .before .before .before .before .before .before .store-members .ensures) (c .before .before .before .before .before .before .before .store-word .last .0) (c .before .before .before .before .before .before .before .store-word .ensures) (c .before .before .before .store-body .last .1 .1 .1 .1 .0) (c .before .before .before .store-body .result) (c .before .before .before .store-body .ensures) in omega (arith, s .0, s .1, group-start (c .before .before .before .before .before .before .before .before .before .before .before .before .before .before .before .before .before .before .before .before .args .file .now) (c .before .before .before .before .before .before .before .before .before .before .before .before .before .before .before .before .before .before .before .shared-slice-known .given) (c .before .before .before .before .before .before .before .before .before .before .before .before .before .before .before .before .before .before .before .before .args .version) (c .before .before .before .before .before .before .before .before .before .before .before .before .before .before .before .before .before .before .before .before .args .deep) (c .before .before .before .before .before .before .before .before .before .before .before .before .before .before .before .before .before .before .before .before .args .at) (c .before .before .before .before .before .before .before .before .before .before .before .before .before .before .before .before .before .before .before .before .args .row) (c .before .before .before .before .before .before .before .before .before .before .before .before .before .before .before .before .before .before .before .before .args .to) (c .before .before .before .before .before .before .before .before .before .before .before .before .before .before .before .before .before .before .before .before .args .contents .now) (c .before .before .before .before .before .before .before .before .before .before .before .before .before .before .before .before .before .before .before .before .args .bodies .now) (c .before .before .before .before .before .before .before .before .before .before .before .before .before .before .before .before .before .before .before .before .pre .1) (c .before .before .before .before .before .before .before .before .before .before .before .before .before .before .before .before .word-at .result) (c .before .before .before .before .before .before .before .before .before .before .before .before .before .before .before .before .word-at .ensures) (c .before .before .before .before .before .before .before .before .before .before .before .before .before .store-members .last .1 .1 .1 .1 .1 .0) (c .before .before .before .before .before .before .before .before .before .before .before .before .before .store-members .last .1 .1 .1 .1 .1 .1 .1 .1 .0) (c .before .before .before .before .before .before .before .before .before .before .before .before .before .store-members .result) (c .before .before .before .before .before .before .before .before .before .before .before .before .before .store-members .ensures) .1)
 
 -- src/objects.rt:96:56
 store-group-sub-store-row : (t : ℕ) → store-group-lts.Need-sub-store-row (
@@ -224,7 +230,7 @@ store-group-sub-store-row : (t : ℕ) → store-group-lts.Need-sub-store-row (
   store-row-reads.Asked,
   store-row-reads.Learnt,
 ) (store-group-at t) store-group.Post
-store-group-sub-store-row t c = ?
+store-group-sub-store-row t c = let s = group-size (c .before .before .before .before .before .before .before .before .before .before .before .before .before .before .before .before .before .before .before .before .args .file .now) (c .before .before .before .before .before .before .before .before .before .before .before .before .before .before .before .before .before .before .before .shared-slice-known .given) (c .before .before .before .before .before .before .before .before .before .before .before .before .before .before .before .before .before .before .before .before .args .version) (c .before .before .before .before .before .before .before .before .before .before .before .before .before .before .before .before .before .before .before .before .args .deep) (c .before .before .before .before .before .before .before .before .before .before .before .before .before .before .before .before .before .before .before .before .args .at) (c .before .before .before .before .before .before .before .before .before .before .before .before .before .before .before .before .before .before .before .before .args .row) (c .before .before .before .before .before .before .before .before .before .before .before .before .before .before .before .before .before .before .before .before .args .to) (c .before .before .before .before .before .before .before .before .before .before .before .before .before .before .before .before .before .before .before .before .args .contents .now) (c .before .before .before .before .before .before .before .before .before .before .before .before .before .before .before .before .before .before .before .before .args .bodies .now) (c .before .before .before .before .before .before .before .before .before .before .before .before .before .before .before .before .before .before .before .before .pre .1) (c .before .before .before .before .before .before .before .before .before .before .before .before .before .before .before .before .word-at .result) (c .before .before .before .before .before .before .before .before .before .before .before .before .before .before .before .before .word-at .ensures) (c .before .before .before .before .before .before .before .before .before .before .before .before .before .store-members .last .1 .1 .1 .1 .1 .0) (c .before .before .before .before .before .before .before .before .before .before .before .before .before .store-members .last .1 .1 .1 .1 .1 .1 .1 .1 .0) (c .before .before .before .before .before .before .before .before .before .before .before .before .before .store-members .result) (c .before .before .before .before .before .before .before .before .before .before .before .before .before .store-members .ensures) (c .before .before .before .before .before .before .before .store-word .last .0) (c .before .before .before .before .before .before .before .store-word .ensures) (c .before .before .before .store-body .last .1 .1 .1 .1 .0) (c .before .before .before .store-body .result) (c .before .before .before .store-body .ensures) in omega (arith, s .0, s .1, group-start (c .before .before .before .before .before .before .before .before .before .before .before .before .before .before .before .before .before .before .before .before .args .file .now) (c .before .before .before .before .before .before .before .before .before .before .before .before .before .before .before .before .before .before .before .shared-slice-known .given) (c .before .before .before .before .before .before .before .before .before .before .before .before .before .before .before .before .before .before .before .before .args .version) (c .before .before .before .before .before .before .before .before .before .before .before .before .before .before .before .before .before .before .before .before .args .deep) (c .before .before .before .before .before .before .before .before .before .before .before .before .before .before .before .before .before .before .before .before .args .at) (c .before .before .before .before .before .before .before .before .before .before .before .before .before .before .before .before .before .before .before .before .args .row) (c .before .before .before .before .before .before .before .before .before .before .before .before .before .before .before .before .before .before .before .before .args .to) (c .before .before .before .before .before .before .before .before .before .before .before .before .before .before .before .before .before .before .before .before .args .contents .now) (c .before .before .before .before .before .before .before .before .before .before .before .before .before .before .before .before .before .before .before .before .args .bodies .now) (c .before .before .before .before .before .before .before .before .before .before .before .before .before .before .before .before .before .before .before .before .pre .1) (c .before .before .before .before .before .before .before .before .before .before .before .before .before .before .before .before .word-at .result) (c .before .before .before .before .before .before .before .before .before .before .before .before .before .before .before .before .word-at .ensures) (c .before .before .before .before .before .before .before .before .before .before .before .before .before .store-members .last .1 .1 .1 .1 .1 .0) (c .before .before .before .before .before .before .before .before .before .before .before .before .before .store-members .last .1 .1 .1 .1 .1 .1 .1 .1 .0) (c .before .before .before .before .before .before .before .before .before .before .before .before .before .store-members .result) (c .before .before .before .before .before .before .before .before .before .before .before .before .before .store-members .ensures) .1)
 
 -- src/objects.rt:96:55
 store-group-cast-store-row-2 : (t : ℕ) → store-group-lts.Need-cast-store-row-2 (
@@ -239,7 +245,7 @@ store-group-cast-store-row-2 : (t : ℕ) → store-group-lts.Need-cast-store-row
   store-row-reads.Asked,
   store-row-reads.Learnt,
 ) (store-group-at t) store-group.Post
-store-group-cast-store-row-2 t c = ?
+store-group-cast-store-row-2 t c = let s = group-size (c .before .before .before .before .before .before .before .before .before .before .before .before .before .before .before .before .before .before .before .before .args .file .now) (c .before .before .before .before .before .before .before .before .before .before .before .before .before .before .before .before .before .before .before .shared-slice-known .given) (c .before .before .before .before .before .before .before .before .before .before .before .before .before .before .before .before .before .before .before .before .args .version) (c .before .before .before .before .before .before .before .before .before .before .before .before .before .before .before .before .before .before .before .before .args .deep) (c .before .before .before .before .before .before .before .before .before .before .before .before .before .before .before .before .before .before .before .before .args .at) (c .before .before .before .before .before .before .before .before .before .before .before .before .before .before .before .before .before .before .before .before .args .row) (c .before .before .before .before .before .before .before .before .before .before .before .before .before .before .before .before .before .before .before .before .args .to) (c .before .before .before .before .before .before .before .before .before .before .before .before .before .before .before .before .before .before .before .before .args .contents .now) (c .before .before .before .before .before .before .before .before .before .before .before .before .before .before .before .before .before .before .before .before .args .bodies .now) (c .before .before .before .before .before .before .before .before .before .before .before .before .before .before .before .before .before .before .before .before .pre .1) (c .before .before .before .before .before .before .before .before .before .before .before .before .before .before .before .before .word-at .result) (c .before .before .before .before .before .before .before .before .before .before .before .before .before .before .before .before .word-at .ensures) (c .before .before .before .before .before .before .before .before .before .before .before .before .before .store-members .last .1 .1 .1 .1 .1 .0) (c .before .before .before .before .before .before .before .before .before .before .before .before .before .store-members .last .1 .1 .1 .1 .1 .1 .1 .1 .0) (c .before .before .before .before .before .before .before .before .before .before .before .before .before .store-members .result) (c .before .before .before .before .before .before .before .before .before .before .before .before .before .store-members .ensures) (c .before .before .before .before .before .before .before .store-word .last .0) (c .before .before .before .before .before .before .before .store-word .ensures) (c .before .before .before .store-body .last .1 .1 .1 .1 .0) (c .before .before .before .store-body .result) (c .before .before .before .store-body .ensures) in omega (arith, s .0, s .1, group-start (c .before .before .before .before .before .before .before .before .before .before .before .before .before .before .before .before .before .before .before .before .args .file .now) (c .before .before .before .before .before .before .before .before .before .before .before .before .before .before .before .before .before .before .before .shared-slice-known .given) (c .before .before .before .before .before .before .before .before .before .before .before .before .before .before .before .before .before .before .before .before .args .version) (c .before .before .before .before .before .before .before .before .before .before .before .before .before .before .before .before .before .before .before .before .args .deep) (c .before .before .before .before .before .before .before .before .before .before .before .before .before .before .before .before .before .before .before .before .args .at) (c .before .before .before .before .before .before .before .before .before .before .before .before .before .before .before .before .before .before .before .before .args .row) (c .before .before .before .before .before .before .before .before .before .before .before .before .before .before .before .before .before .before .before .before .args .to) (c .before .before .before .before .before .before .before .before .before .before .before .before .before .before .before .before .before .before .before .before .args .contents .now) (c .before .before .before .before .before .before .before .before .before .before .before .before .before .before .before .before .before .before .before .before .args .bodies .now) (c .before .before .before .before .before .before .before .before .before .before .before .before .before .before .before .before .before .before .before .before .pre .1) (c .before .before .before .before .before .before .before .before .before .before .before .before .before .before .before .before .word-at .result) (c .before .before .before .before .before .before .before .before .before .before .before .before .before .before .before .before .word-at .ensures) (c .before .before .before .before .before .before .before .before .before .before .before .before .before .store-members .last .1 .1 .1 .1 .1 .0) (c .before .before .before .before .before .before .before .before .before .before .before .before .before .store-members .last .1 .1 .1 .1 .1 .1 .1 .1 .0) (c .before .before .before .before .before .before .before .before .before .before .before .before .before .store-members .result) (c .before .before .before .before .before .before .before .before .before .before .before .before .before .store-members .ensures) .1)
 
 -- src/objects.rt:96:5
 store-group-store-row-requires : (t : ℕ) → store-group-lts.Need-store-row-requires (
@@ -254,7 +260,7 @@ store-group-store-row-requires : (t : ℕ) → store-group-lts.Need-store-row-re
   store-row-reads.Asked,
   store-row-reads.Learnt,
 ) (store-group-at t) store-group.Post
-store-group-store-row-requires t c κs = ?
+store-group-store-row-requires t c κs = omega (arith, group-row (c .before .before .before .before .before .before .before .before .before .before .before .before .before .before .before .before .before .before .before .before .args .file .now) (c .before .before .before .before .before .before .before .before .before .before .before .before .before .before .before .before .before .before .before .shared-slice-known .given) (c .before .before .before .before .before .before .before .before .before .before .before .before .before .before .before .before .before .before .before .before .args .version) (c .before .before .before .before .before .before .before .before .before .before .before .before .before .before .before .before .before .before .before .before .args .deep) (c .before .before .before .before .before .before .before .before .before .before .before .before .before .before .before .before .before .before .before .before .args .at) (c .before .before .before .before .before .before .before .before .before .before .before .before .before .before .before .before .before .before .before .before .args .row) (c .before .before .before .before .before .before .before .before .before .before .before .before .before .before .before .before .before .before .before .before .args .to) (c .before .before .before .before .before .before .before .before .before .before .before .before .before .before .before .before .before .before .before .before .args .contents .now) (c .before .before .before .before .before .before .before .before .before .before .before .before .before .before .before .before .before .before .before .before .args .bodies .now) (c .before .before .before .before .before .before .before .before .before .before .before .before .before .before .before .before .before .before .before .before .pre .1) .0, c .before .before .before .before .before .before .before .before .before .before .before .before .before .store-members .ensures .same-rows)
 
 -- src/objects.rt:62:1
 store-group-same-length : (t : ℕ) → store-group-lts.Need-same-length (
@@ -269,7 +275,7 @@ store-group-same-length : (t : ℕ) → store-group-lts.Need-same-length (
   store-row-reads.Asked,
   store-row-reads.Learnt,
 ) (store-group-at t) store-group.Post
-store-group-same-length t c = ?
+store-group-same-length t c = group-stored (c .before .before .before .before .before .before .before .before .before .before .before .before .before .before .before .before .before .before .before .before .before .before .before .args .file .now) (c .before .before .before .before .before .before .before .before .before .before .before .before .before .before .before .before .before .before .before .before .before .before .shared-slice-known .given) (c .before .before .before .before .before .before .before .before .before .before .before .before .before .before .before .before .before .before .before .before .before .before .before .args .version) (c .before .before .before .before .before .before .before .before .before .before .before .before .before .before .before .before .before .before .before .before .before .before .before .args .deep) (c .before .before .before .before .before .before .before .before .before .before .before .before .before .before .before .before .before .before .before .before .before .before .before .args .at) (c .before .before .before .before .before .before .before .before .before .before .before .before .before .before .before .before .before .before .before .before .before .before .before .args .row) (c .before .before .before .before .before .before .before .before .before .before .before .before .before .before .before .before .before .before .before .before .before .before .before .args .to) (c .before .before .before .before .before .before .before .before .before .before .before .before .before .before .before .before .before .before .before .before .before .before .before .args .contents .now) (c .before .before .before .before .before .before .before .before .before .before .before .before .before .before .before .before .before .before .before .before .before .before .before .args .bodies .now) (c .before .before .before .before .before .before .before .before .before .before .before .before .before .before .before .before .before .before .before .before .before .before .before .pre .1) (c .before .before .before .before .before .before .before .before .before .before .before .before .before .before .before .before .before .before .before .word-at .result) (c .before .before .before .before .before .before .before .before .before .before .before .before .before .before .before .before .before .before .before .word-at .ensures) (c .before .before .before .before .before .before .before .before .before .before .before .before .before .before .before .before .store-members .last .1 .1 .1 .1 .1 .0) (c .before .before .before .before .before .before .before .before .before .before .before .before .before .before .before .before .store-members .last .1 .1 .1 .1 .1 .1 .1 .1 .0) (c .before .before .before .before .before .before .before .before .before .before .before .before .before .before .before .before .store-members .result) (c .before .before .before .before .before .before .before .before .before .before .before .before .before .before .before .before .store-members .ensures) (c .before .before .before .before .before .before .before .before .before .before .store-word .last .0) (c .before .before .before .before .before .before .before .before .before .before .store-word .ensures) (c .before .before .before .before .before .before .store-body .last .1 .1 .1 .1 .0) (c .before .before .before .before .before .before .store-body .result) (c .before .before .before .before .before .before .store-body .ensures) (c .before .before .before .before .before .before .before .before .before .before .before .before .before .before .before .before .before .before .before .before .before .before .before .args .parent) (c .before .before .store-row .last .0) (c .before .before .store-row .ensures) .same-rows
 
 -- src/objects.rt:62:1
 store-group-same-length-2 : (t : ℕ) → store-group-lts.Need-same-length-2 (
@@ -284,7 +290,7 @@ store-group-same-length-2 : (t : ℕ) → store-group-lts.Need-same-length-2 (
   store-row-reads.Asked,
   store-row-reads.Learnt,
 ) (store-group-at t) store-group.Post
-store-group-same-length-2 t c = ?
+store-group-same-length-2 t c = group-stored (c .before .before .before .before .before .before .before .before .before .before .before .before .before .before .before .before .before .before .before .before .before .before .before .args .file .now) (c .before .before .before .before .before .before .before .before .before .before .before .before .before .before .before .before .before .before .before .before .before .before .shared-slice-known .given) (c .before .before .before .before .before .before .before .before .before .before .before .before .before .before .before .before .before .before .before .before .before .before .before .args .version) (c .before .before .before .before .before .before .before .before .before .before .before .before .before .before .before .before .before .before .before .before .before .before .before .args .deep) (c .before .before .before .before .before .before .before .before .before .before .before .before .before .before .before .before .before .before .before .before .before .before .before .args .at) (c .before .before .before .before .before .before .before .before .before .before .before .before .before .before .before .before .before .before .before .before .before .before .before .args .row) (c .before .before .before .before .before .before .before .before .before .before .before .before .before .before .before .before .before .before .before .before .before .before .before .args .to) (c .before .before .before .before .before .before .before .before .before .before .before .before .before .before .before .before .before .before .before .before .before .before .before .args .contents .now) (c .before .before .before .before .before .before .before .before .before .before .before .before .before .before .before .before .before .before .before .before .before .before .before .args .bodies .now) (c .before .before .before .before .before .before .before .before .before .before .before .before .before .before .before .before .before .before .before .before .before .before .before .pre .1) (c .before .before .before .before .before .before .before .before .before .before .before .before .before .before .before .before .before .before .before .word-at .result) (c .before .before .before .before .before .before .before .before .before .before .before .before .before .before .before .before .before .before .before .word-at .ensures) (c .before .before .before .before .before .before .before .before .before .before .before .before .before .before .before .before .store-members .last .1 .1 .1 .1 .1 .0) (c .before .before .before .before .before .before .before .before .before .before .before .before .before .before .before .before .store-members .last .1 .1 .1 .1 .1 .1 .1 .1 .0) (c .before .before .before .before .before .before .before .before .before .before .before .before .before .before .before .before .store-members .result) (c .before .before .before .before .before .before .before .before .before .before .before .before .before .before .before .before .store-members .ensures) (c .before .before .before .before .before .before .before .before .before .before .store-word .last .0) (c .before .before .before .before .before .before .before .before .before .before .store-word .ensures) (c .before .before .before .before .before .before .store-body .last .1 .1 .1 .1 .0) (c .before .before .before .before .before .before .store-body .result) (c .before .before .before .before .before .before .store-body .ensures) (c .before .before .before .before .before .before .before .before .before .before .before .before .before .before .before .before .before .before .before .before .before .before .before .args .parent) (c .before .before .store-row .last .0) (c .before .before .store-row .ensures) .same-words
 
 -- src/objects.rt:62:1
 store-group-returns : (t : ℕ) → store-group-lts.Need-returns (
@@ -299,71 +305,71 @@ store-group-returns : (t : ℕ) → store-group-lts.Need-returns (
   store-row-reads.Asked,
   store-row-reads.Learnt,
 ) (store-group-at t) store-group.Post
-store-group-returns t c = ?
+store-group-returns t c = group-stored (c .before .before .before .before .before .before .before .before .before .before .before .before .before .before .before .before .before .before .before .before .before .before .before .args .file .now) (c .before .before .before .before .before .before .before .before .before .before .before .before .before .before .before .before .before .before .before .before .before .before .shared-slice-known .given) (c .before .before .before .before .before .before .before .before .before .before .before .before .before .before .before .before .before .before .before .before .before .before .before .args .version) (c .before .before .before .before .before .before .before .before .before .before .before .before .before .before .before .before .before .before .before .before .before .before .before .args .deep) (c .before .before .before .before .before .before .before .before .before .before .before .before .before .before .before .before .before .before .before .before .before .before .before .args .at) (c .before .before .before .before .before .before .before .before .before .before .before .before .before .before .before .before .before .before .before .before .before .before .before .args .row) (c .before .before .before .before .before .before .before .before .before .before .before .before .before .before .before .before .before .before .before .before .before .before .before .args .to) (c .before .before .before .before .before .before .before .before .before .before .before .before .before .before .before .before .before .before .before .before .before .before .before .args .contents .now) (c .before .before .before .before .before .before .before .before .before .before .before .before .before .before .before .before .before .before .before .before .before .before .before .args .bodies .now) (c .before .before .before .before .before .before .before .before .before .before .before .before .before .before .before .before .before .before .before .before .before .before .before .pre .1) (c .before .before .before .before .before .before .before .before .before .before .before .before .before .before .before .before .before .before .before .word-at .result) (c .before .before .before .before .before .before .before .before .before .before .before .before .before .before .before .before .before .before .before .word-at .ensures) (c .before .before .before .before .before .before .before .before .before .before .before .before .before .before .before .before .store-members .last .1 .1 .1 .1 .1 .0) (c .before .before .before .before .before .before .before .before .before .before .before .before .before .before .before .before .store-members .last .1 .1 .1 .1 .1 .1 .1 .1 .0) (c .before .before .before .before .before .before .before .before .before .before .before .before .before .before .before .before .store-members .result) (c .before .before .before .before .before .before .before .before .before .before .before .before .before .before .before .before .store-members .ensures) (c .before .before .before .before .before .before .before .before .before .before .store-word .last .0) (c .before .before .before .before .before .before .before .before .before .before .store-word .ensures) (c .before .before .before .before .before .before .store-body .last .1 .1 .1 .1 .0) (c .before .before .before .before .before .before .store-body .result) (c .before .before .before .before .before .before .store-body .ensures) (c .before .before .before .before .before .before .before .before .before .before .before .before .before .before .before .before .before .before .before .before .before .before .before .args .parent) (c .before .before .store-row .last .0) (c .before .before .store-row .ensures)
 
 abbrev store-members-Inv-loop : store-members-lts.InvT-loop
 store-members-Inv-loop file version deep members from contents₀ parent first bodies₀ start left₀ at₀ row₀ to₀ contents bodies left at row to =
-    ?
+    Onward file version deep parent members from first start contents₀ bodies₀ left at row to contents bodies
 
 abbrev store-members-μ-loop : store-members-lts.MeasureT-loop
 store-members-μ-loop file version deep members from contents₀ parent first bodies₀ start left₀ at₀ row₀ to₀ contents bodies left at row to =
-    ?
+    left
 
 -- src/objects.rt:123:5
 store-members-loop-holds : (t : ℕ) → store-members-lts.Need-loop-holds (
   store-object-below t,
   store-object.Post,
 ) (store-members-at t) store-members.Post store-members-Inv-loop store-members-μ-loop
-store-members-loop-holds t c = ?
+store-members-loop-holds t c = members-begin (c .before .before .before .args .file .now) (c .before .before .before .args .version) (c .before .before .before .args .deep) (c .before .before .before .args .parent) (c .before .before .before .args .members) (c .before .before .before .args .from) (c .before .before .before .args .first) (c .before .before .before .args .start) (c .before .before .before .args .contents .now) (c .before .before .before .args .bodies .now) (c .before .before .before .pre .1)
 
 -- src/objects.rt:124:13
 store-members-store-object-requires : (t : ℕ) → store-members-lts.Need-store-object-requires (
   store-object-below t,
   store-object.Post,
 ) (store-members-at t) store-members.Post store-members-Inv-loop store-members-μ-loop
-store-members-store-object-requires t c κs = ?
+store-members-store-object-requires t c κs = (omega (arith, c .before .before .before .before .before .before .before .pre .0), first-storable (c .before .before .before .before .before .before .before .args .file .now) (c .before .before .before .before .before .before .before .args .version) (c .before .before .before .before .before .before .before .args .deep) (c .before .before .before .before .before .before .before .args .parent) (c .before .before .before .before .before .before .before .args .members) (c .before .before .before .before .before .before .before .args .from) (c .before .before .before .before .before .before .before .args .first) (c .before .before .before .before .before .before .before .args .start) (c .before .before .before .before .before .before .before .args .contents .now) (c .before .before .before .before .before .before .before .args .bodies .now) (c .before .before .before .loop .left) (c .before .before .before .loop .at) (c .before .before .before .loop .row) (c .before .before .before .loop .to) (c .before .before .before .loop .contents) (c .before .before .before .loop .bodies) (c .before .before .before .loop .inv) (c .before .before .before .before .before .before .shared-slice-known .given) (c .before .before .loop-test .taken))
 
 -- src/objects.rt:125:16
 store-members-sub-left : (t : ℕ) → store-members-lts.Need-sub-left (
   store-object-below t,
   store-object.Post,
 ) (store-members-at t) store-members.Post store-members-Inv-loop store-members-μ-loop
-store-members-sub-left t c = ?
+store-members-sub-left t c = omega (arith, c .before .before .before .before .before .before .before .loop-test .taken)
 
 -- src/objects.rt:123:5
 store-members-loop-less : (t : ℕ) → store-members-lts.Need-loop-less (
   store-object-below t,
   store-object.Post,
 ) (store-members-at t) store-members.Post store-members-Inv-loop store-members-μ-loop
-store-members-loop-less t c = ?
+store-members-loop-less t c = omega (arith, c .before .before .before .before .before .before .before .loop-test .taken)
 
 -- src/objects.rt:123:5
 store-members-loop-again : (t : ℕ) → store-members-lts.Need-loop-again (
   store-object-below t,
   store-object.Post,
 ) (store-members-at t) store-members.Post store-members-Inv-loop store-members-μ-loop
-store-members-loop-again t c = ?
+store-members-loop-again t c = members-again (c .before .before .before .before .before .before .before .before .before .before .before .before .args .file .now) (c .before .before .before .before .before .before .before .before .before .before .before .before .args .version) (c .before .before .before .before .before .before .before .before .before .before .before .before .args .deep) (c .before .before .before .before .before .before .before .before .before .before .before .before .args .parent) (c .before .before .before .before .before .before .before .before .before .before .before .before .args .members) (c .before .before .before .before .before .before .before .before .before .before .before .before .args .from) (c .before .before .before .before .before .before .before .before .before .before .before .before .args .first) (c .before .before .before .before .before .before .before .before .before .before .before .before .args .start) (c .before .before .before .before .before .before .before .before .before .before .before .before .args .contents .now) (c .before .before .before .before .before .before .before .before .before .before .before .before .args .bodies .now) (c .before .before .before .before .before .before .before .before .loop .left) (c .before .before .before .before .before .before .before .before .loop .at) (c .before .before .before .before .before .before .before .before .loop .row) (c .before .before .before .before .before .before .before .before .loop .to) (c .before .before .before .before .before .before .before .before .loop .contents) (c .before .before .before .before .before .before .before .before .loop .bodies) (c .before .before .before .before .before .before .before .before .loop .inv) (c .before .before .before .before .before .before .before .before .before .before .before .shared-slice-known .given) (c .before .before .before .before .before .before .before .loop-test .taken) (c .before .before .before .before .store-object .last .1 .1 .1 .1 .0) (c .before .before .before .before .store-object .last .1 .1 .1 .1 .1 .1 .1 .0) (c .before .before .before .before .store-object .result) (c .before .before .before .before .store-object .ensures)
 
 -- src/objects.rt:104:1
 store-members-same-length : (t : ℕ) → store-members-lts.Need-same-length (
   store-object-below t,
   store-object.Post,
 ) (store-members-at t) store-members.Post store-members-Inv-loop store-members-μ-loop
-store-members-same-length t c = ?
+store-members-same-length t c = c .before .loop .inv .same-rows
 
 -- src/objects.rt:104:1
 store-members-same-length-2 : (t : ℕ) → store-members-lts.Need-same-length-2 (
   store-object-below t,
   store-object.Post,
 ) (store-members-at t) store-members.Post store-members-Inv-loop store-members-μ-loop
-store-members-same-length-2 t c = ?
+store-members-same-length-2 t c = c .before .loop .inv .same-words
 
 -- src/objects.rt:104:1
 store-members-returns : (t : ℕ) → store-members-lts.Need-returns (
   store-object-below t,
   store-object.Post,
 ) (store-members-at t) store-members.Post store-members-Inv-loop store-members-μ-loop
-store-members-returns t c = ?
+store-members-returns t c = members-end (c .before .before .before .before .before .args .file .now) (c .before .before .before .before .before .args .version) (c .before .before .before .before .before .args .deep) (c .before .before .before .before .before .args .parent) (c .before .before .before .before .before .args .members) (c .before .before .before .before .before .args .from) (c .before .before .before .before .before .args .first) (c .before .before .before .before .before .args .start) (c .before .before .before .before .before .args .contents .now) (c .before .before .before .before .before .args .bodies .now) (c .before .loop .left) (c .before .loop .at) (c .before .loop .row) (c .before .loop .to) (c .before .loop .contents) (c .before .loop .bodies) (c .before .loop .inv) (λ h. omega (arith, c .loop-test .left))
 
 -- src/objects.rt:29:9
 store-object-char-at-requires : (t : ℕ) → store-object-lts.Need-char-at-requires (
@@ -380,7 +386,7 @@ store-object-char-at-requires : (t : ℕ) → store-object-lts.Need-char-at-requ
   store-row-reads.Asked,
   store-row-reads.Learnt,
 ) (store-object-at t) store-object.Post
-store-object-char-at-requires t c κs = ?
+store-object-char-at-requires t c κs = id-inside (c .before .before .before .args .file .now) (c .before .before .shared-slice-known .given) (c .before .before .before .args .version) (c .before .before .before .args .deep) (c .before .before .before .args .at) (c .before .before .before .args .row) (c .before .before .before .args .to) (c .before .before .before .args .contents .now) (c .before .before .before .args .bodies .now) (c .before .before .before .pre .1)
 
 -- src/objects.rt:34:13
 store-object-sub-store-group : (t : ℕ) → store-object-lts.Need-sub-store-group (
@@ -397,7 +403,7 @@ store-object-sub-store-group : (t : ℕ) → store-object-lts.Need-sub-store-gro
   store-row-reads.Asked,
   store-row-reads.Learnt,
 ) (store-object-at t) store-object.Post
-store-object-sub-store-group t c = ?
+store-object-sub-store-group t c = omega (arith, deeper (c .before .before .before .before .before .args .file .now) (c .before .before .before .before .shared-slice-known .given) (c .before .before .before .before .before .args .version) (c .before .before .before .before .before .args .deep) (c .before .before .before .before .before .args .at) (c .before .before .before .before .before .args .row) (c .before .before .before .before .before .args .to) (c .before .before .before .before .before .args .contents .now) (c .before .before .before .before .before .args .bodies .now) (c .before .before .before .before .before .pre .1) (c .before .char-at .result) (c .before .char-at .ensures) (c .if1 .taken))
 
 -- src/objects.rt:35:13
 store-object-add-store-group : (t : ℕ) → store-object-lts.Need-add-store-group (
@@ -414,7 +420,7 @@ store-object-add-store-group : (t : ℕ) → store-object-lts.Need-add-store-gro
   store-row-reads.Asked,
   store-row-reads.Learnt,
 ) (store-object-at t) store-object.Post
-store-object-add-store-group t c = ?
+store-object-add-store-group t c = omega (arith, id-inside (c .before .before .before .before .before .args .file .now) (c .before .before .before .before .shared-slice-known .given) (c .before .before .before .before .before .args .version) (c .before .before .before .before .before .args .deep) (c .before .before .before .before .before .args .at) (c .before .before .before .before .before .args .row) (c .before .before .before .before .before .args .to) (c .before .before .before .before .before .args .contents .now) (c .before .before .before .before .before .args .bodies .now) (c .before .before .before .before .before .pre .1), c .before .before .before .before .before .pre .1 .short)
 
 -- src/objects.rt:31:9
 store-object-store-group-requires : (t : ℕ) → store-object-lts.Need-store-group-requires (
@@ -431,7 +437,7 @@ store-object-store-group-requires : (t : ℕ) → store-object-lts.Need-store-gr
   store-row-reads.Asked,
   store-row-reads.Learnt,
 ) (store-object-at t) store-object.Post
-store-object-store-group-requires t c κs = ?
+store-object-store-group-requires t c κs = (omega (arith, c .before .before .before .before .before .before .before .pre .0, deeper (c .before .before .before .before .before .before .before .args .file .now) (c .before .before .before .before .before .before .shared-slice-known .given) (c .before .before .before .before .before .before .before .args .version) (c .before .before .before .before .before .before .before .args .deep) (c .before .before .before .before .before .before .before .args .at) (c .before .before .before .before .before .before .before .args .row) (c .before .before .before .before .before .before .before .args .to) (c .before .before .before .before .before .before .before .args .contents .now) (c .before .before .before .before .before .before .before .args .bodies .now) (c .before .before .before .before .before .before .before .pre .1) (c .before .before .before .char-at .result) (c .before .before .before .char-at .ensures) (c .before .before .if1 .taken)), group-storable (c .before .before .before .before .before .before .before .args .file .now) (c .before .before .before .before .before .before .shared-slice-known .given) (c .before .before .before .before .before .before .before .args .version) (c .before .before .before .before .before .before .before .args .deep) (c .before .before .before .before .before .before .before .args .at) (c .before .before .before .before .before .before .before .args .row) (c .before .before .before .before .before .before .before .args .to) (c .before .before .before .before .before .before .before .args .contents .now) (c .before .before .before .before .before .before .before .args .bodies .now) (c .before .before .before .before .before .before .before .pre .1) (c .before .before .before .char-at .result) (c .before .before .before .char-at .ensures) (c .before .before .if1 .taken))
 
 -- src/objects.rt:31:9
 store-object-same-length : (t : ℕ) → store-object-lts.Need-same-length (
@@ -448,7 +454,7 @@ store-object-same-length : (t : ℕ) → store-object-lts.Need-same-length (
   store-row-reads.Asked,
   store-row-reads.Learnt,
 ) (store-object-at t) store-object.Post
-store-object-same-length t c = ?
+store-object-same-length t c = L.group-stored (c .before .before .before .before .before .before .before .before .before .before .before .before .args .file .now) (c .before .before .before .before .before .before .before .before .before .before .before .shared-slice-known .given) (c .before .before .before .before .before .before .before .before .before .before .before .before .args .version) (c .before .before .before .before .before .before .before .before .before .before .before .before .args .deep) (c .before .before .before .before .before .before .before .before .before .before .before .before .args .at) (c .before .before .before .before .before .before .before .before .before .before .before .before .args .row) (c .before .before .before .before .before .before .before .before .before .before .before .before .args .to) (c .before .before .before .before .before .before .before .before .before .before .before .before .args .contents .now) (c .before .before .before .before .before .before .before .before .before .before .before .before .args .bodies .now) (c .before .before .before .before .before .before .before .before .before .before .before .before .pre .1) (c .before .before .before .before .before .before .before .before .char-at .result) (c .before .before .before .before .before .before .before .before .char-at .ensures) (c .before .before .before .before .before .before .before .if1 .taken) (c .before .before .before .before .before .before .before .before .before .before .before .before .args .parent) (c .before .before .before .before .store-group .last .1 .1 .1 .1 .0) (c .before .before .before .before .store-group .last .1 .1 .1 .1 .1 .1 .1 .0) (c .before .before .before .before .store-group .result) (c .before .before .before .before .store-group .ensures) .same-rows
 
 -- src/objects.rt:31:9
 store-object-same-length-2 : (t : ℕ) → store-object-lts.Need-same-length-2 (
@@ -465,7 +471,7 @@ store-object-same-length-2 : (t : ℕ) → store-object-lts.Need-same-length-2 (
   store-row-reads.Asked,
   store-row-reads.Learnt,
 ) (store-object-at t) store-object.Post
-store-object-same-length-2 t c = ?
+store-object-same-length-2 t c = L.group-stored (c .before .before .before .before .before .before .before .before .before .before .before .before .args .file .now) (c .before .before .before .before .before .before .before .before .before .before .before .shared-slice-known .given) (c .before .before .before .before .before .before .before .before .before .before .before .before .args .version) (c .before .before .before .before .before .before .before .before .before .before .before .before .args .deep) (c .before .before .before .before .before .before .before .before .before .before .before .before .args .at) (c .before .before .before .before .before .before .before .before .before .before .before .before .args .row) (c .before .before .before .before .before .before .before .before .before .before .before .before .args .to) (c .before .before .before .before .before .before .before .before .before .before .before .before .args .contents .now) (c .before .before .before .before .before .before .before .before .before .before .before .before .args .bodies .now) (c .before .before .before .before .before .before .before .before .before .before .before .before .pre .1) (c .before .before .before .before .before .before .before .before .char-at .result) (c .before .before .before .before .before .before .before .before .char-at .ensures) (c .before .before .before .before .before .before .before .if1 .taken) (c .before .before .before .before .before .before .before .before .before .before .before .before .args .parent) (c .before .before .before .before .store-group .last .1 .1 .1 .1 .0) (c .before .before .before .before .store-group .last .1 .1 .1 .1 .1 .1 .1 .0) (c .before .before .before .before .store-group .result) (c .before .before .before .before .store-group .ensures) .same-words
 
 -- src/objects.rt:31:9
 store-object-returns : (t : ℕ) → store-object-lts.Need-returns (
@@ -482,7 +488,7 @@ store-object-returns : (t : ℕ) → store-object-lts.Need-returns (
   store-row-reads.Asked,
   store-row-reads.Learnt,
 ) (store-object-at t) store-object.Post
-store-object-returns t c = ?
+store-object-returns t c = L.group-stored (c .before .before .before .before .before .before .before .before .before .before .before .before .args .file .now) (c .before .before .before .before .before .before .before .before .before .before .before .shared-slice-known .given) (c .before .before .before .before .before .before .before .before .before .before .before .before .args .version) (c .before .before .before .before .before .before .before .before .before .before .before .before .args .deep) (c .before .before .before .before .before .before .before .before .before .before .before .before .args .at) (c .before .before .before .before .before .before .before .before .before .before .before .before .args .row) (c .before .before .before .before .before .before .before .before .before .before .before .before .args .to) (c .before .before .before .before .before .before .before .before .before .before .before .before .args .contents .now) (c .before .before .before .before .before .before .before .before .before .before .before .before .args .bodies .now) (c .before .before .before .before .before .before .before .before .before .before .before .before .pre .1) (c .before .before .before .before .before .before .before .before .char-at .result) (c .before .before .before .before .before .before .before .before .char-at .ensures) (c .before .before .before .before .before .before .before .if1 .taken) (c .before .before .before .before .before .before .before .before .before .before .before .before .args .parent) (c .before .before .before .before .store-group .last .1 .1 .1 .1 .0) (c .before .before .before .before .store-group .last .1 .1 .1 .1 .1 .1 .1 .0) (c .before .before .before .before .store-group .result) (c .before .before .before .before .store-group .ensures)
 
 -- src/objects.rt:43:55
 store-object-cast-leaf-start : (t : ℕ) → store-object-lts.Need-cast-leaf-start (
@@ -499,7 +505,7 @@ store-object-cast-leaf-start : (t : ℕ) → store-object-lts.Need-cast-leaf-sta
   store-row-reads.Asked,
   store-row-reads.Learnt,
 ) (store-object-at t) store-object.Post
-store-object-cast-leaf-start t c = ?
+store-object-cast-leaf-start t c = omega (arith, id-char (c .before .before .before .before .before .args .file .now) (c .before .before .before .before .shared-slice-known .given) (c .before .before .before .before .before .args .version) (c .before .before .before .before .before .args .deep) (c .before .before .before .before .before .args .at) (c .before .before .before .before .before .args .row) (c .before .before .before .before .before .args .to) (c .before .before .before .before .before .args .contents .now) (c .before .before .before .before .before .args .bodies .now) (c .before .before .before .before .before .pre .1) (c .before .char-at .result) (c .before .char-at .ensures))
 
 -- src/objects.rt:43:44
 store-object-leaf-start-requires : (t : ℕ) → store-object-lts.Need-leaf-start-requires (
@@ -516,7 +522,7 @@ store-object-leaf-start-requires : (t : ℕ) → store-object-lts.Need-leaf-star
   store-row-reads.Asked,
   store-row-reads.Learnt,
 ) (store-object-at t) store-object.Post
-store-object-leaf-start-requires t c κs = ?
+store-object-leaf-start-requires t c κs = search needs
 
 -- src/objects.rt:43:71
 store-object-add-store-body : (t : ℕ) → store-object-lts.Need-add-store-body (
@@ -533,7 +539,7 @@ store-object-add-store-body : (t : ℕ) → store-object-lts.Need-add-store-body
   store-row-reads.Asked,
   store-row-reads.Learnt,
 ) (store-object-at t) store-object.Post
-store-object-add-store-body t c = ?
+store-object-add-store-body t c = omega (arith, id-inside (c .before .before .before .before .before .before .args .file .now) (c .before .before .before .before .before .shared-slice-known .given) (c .before .before .before .before .before .before .args .version) (c .before .before .before .before .before .before .args .deep) (c .before .before .before .before .before .before .args .at) (c .before .before .before .before .before .before .args .row) (c .before .before .before .before .before .before .args .to) (c .before .before .before .before .before .before .args .contents .now) (c .before .before .before .before .before .before .args .bodies .now) (c .before .before .before .before .before .before .pre .1), c .before .before .before .before .before .before .pre .1 .short)
 
 -- src/objects.rt:43:9
 store-object-store-body-requires : (t : ℕ) → store-object-lts.Need-store-body-requires (
@@ -550,7 +556,7 @@ store-object-store-body-requires : (t : ℕ) → store-object-lts.Need-store-bod
   store-row-reads.Asked,
   store-row-reads.Learnt,
 ) (store-object-at t) store-object.Post
-store-object-store-body-requires t c κs = ?
+store-object-store-body-requires t c κs = rw (c .before .leaf-start .ensures) (leaf-storable (c .before .before .before .before .before .before .before .args .file .now) (c .before .before .before .before .before .before .shared-slice-known .given) (c .before .before .before .before .before .before .before .args .version) (c .before .before .before .before .before .before .before .args .deep) (c .before .before .before .before .before .before .before .args .at) (c .before .before .before .before .before .before .before .args .row) (c .before .before .before .before .before .before .before .args .to) (c .before .before .before .before .before .before .before .args .contents .now) (c .before .before .before .before .before .before .before .args .bodies .now) (c .before .before .before .before .before .before .before .pre .1) (c .before .before .before .char-at .result) (c .before .before .before .char-at .ensures) (c .before .before .if1 .left))
 
 -- src/objects.rt:49:9
 store-object-leaf-kind-requires : (t : ℕ) → store-object-lts.Need-leaf-kind-requires (
@@ -567,7 +573,7 @@ store-object-leaf-kind-requires : (t : ℕ) → store-object-lts.Need-leaf-kind-
   store-row-reads.Asked,
   store-row-reads.Learnt,
 ) (store-object-at t) store-object.Post
-store-object-leaf-kind-requires t c κs = ?
+store-object-leaf-kind-requires t c κs = search needs
 
 -- src/objects.rt:51:9
 store-object-cast-store-row : (t : ℕ) → store-object-lts.Need-cast-store-row (
@@ -584,7 +590,7 @@ store-object-cast-store-row : (t : ℕ) → store-object-lts.Need-cast-store-row
   store-row-reads.Asked,
   store-row-reads.Learnt,
 ) (store-object-at t) store-object.Post
-store-object-cast-store-row t c = ?
+store-object-cast-store-row t c = let e = leaf-end (c .before .before .before .before .before .before .before .before .before .before .before .before .args .file .now) (c .before .before .before .before .before .before .before .before .before .before .before .shared-slice-known .given) (c .before .before .before .before .before .before .before .before .before .before .before .before .args .version) (c .before .before .before .before .before .before .before .before .before .before .before .before .args .deep) (c .before .before .before .before .before .before .before .before .before .before .before .before .args .at) (c .before .before .before .before .before .before .before .before .before .before .before .before .args .row) (c .before .before .before .before .before .before .before .before .before .before .before .before .args .to) (c .before .before .before .before .before .before .before .before .before .before .before .before .args .contents .now) (c .before .before .before .before .before .before .before .before .before .before .before .before .args .bodies .now) (c .before .before .before .before .before .before .before .before .before .before .before .before .pre .1) (c .before .before .before .before .before .before .before .before .char-at .result) (c .before .before .before .before .before .before .before .before .char-at .ensures) (c .before .before .before .before .before .before .before .if1 .left) (c .before .before .before .before .store-body .last .1 .1 .1 .1 .0) (c .before .before .before .before .store-body .result) (rw (c .before .before .before .before .before .before .leaf-start .ensures) at (c .before .before .before .before .store-body .ensures)) in omega (arith, e .0, e .1)
 
 -- src/objects.rt:52:10
 store-object-sub-store-row : (t : ℕ) → store-object-lts.Need-sub-store-row (
@@ -601,7 +607,7 @@ store-object-sub-store-row : (t : ℕ) → store-object-lts.Need-sub-store-row (
   store-row-reads.Asked,
   store-row-reads.Learnt,
 ) (store-object-at t) store-object.Post
-store-object-sub-store-row t c = ?
+store-object-sub-store-row t c = let e = leaf-end (c .before .before .before .before .before .before .before .before .before .before .before .before .args .file .now) (c .before .before .before .before .before .before .before .before .before .before .before .shared-slice-known .given) (c .before .before .before .before .before .before .before .before .before .before .before .before .args .version) (c .before .before .before .before .before .before .before .before .before .before .before .before .args .deep) (c .before .before .before .before .before .before .before .before .before .before .before .before .args .at) (c .before .before .before .before .before .before .before .before .before .before .before .before .args .row) (c .before .before .before .before .before .before .before .before .before .before .before .before .args .to) (c .before .before .before .before .before .before .before .before .before .before .before .before .args .contents .now) (c .before .before .before .before .before .before .before .before .before .before .before .before .args .bodies .now) (c .before .before .before .before .before .before .before .before .before .before .before .before .pre .1) (c .before .before .before .before .before .before .before .before .char-at .result) (c .before .before .before .before .before .before .before .before .char-at .ensures) (c .before .before .before .before .before .before .before .if1 .left) (c .before .before .before .before .store-body .last .1 .1 .1 .1 .0) (c .before .before .before .before .store-body .result) (rw (c .before .before .before .before .before .before .leaf-start .ensures) at (c .before .before .before .before .store-body .ensures)) in omega (arith, e .0, e .1)
 
 -- src/objects.rt:52:9
 store-object-cast-store-row-2 : (t : ℕ) → store-object-lts.Need-cast-store-row-2 (
@@ -618,7 +624,7 @@ store-object-cast-store-row-2 : (t : ℕ) → store-object-lts.Need-cast-store-r
   store-row-reads.Asked,
   store-row-reads.Learnt,
 ) (store-object-at t) store-object.Post
-store-object-cast-store-row-2 t c = ?
+store-object-cast-store-row-2 t c = let e = leaf-end (c .before .before .before .before .before .before .before .before .before .before .before .before .args .file .now) (c .before .before .before .before .before .before .before .before .before .before .before .shared-slice-known .given) (c .before .before .before .before .before .before .before .before .before .before .before .before .args .version) (c .before .before .before .before .before .before .before .before .before .before .before .before .args .deep) (c .before .before .before .before .before .before .before .before .before .before .before .before .args .at) (c .before .before .before .before .before .before .before .before .before .before .before .before .args .row) (c .before .before .before .before .before .before .before .before .before .before .before .before .args .to) (c .before .before .before .before .before .before .before .before .before .before .before .before .args .contents .now) (c .before .before .before .before .before .before .before .before .before .before .before .before .args .bodies .now) (c .before .before .before .before .before .before .before .before .before .before .before .before .pre .1) (c .before .before .before .before .before .before .before .before .char-at .result) (c .before .before .before .before .before .before .before .before .char-at .ensures) (c .before .before .before .before .before .before .before .if1 .left) (c .before .before .before .before .store-body .last .1 .1 .1 .1 .0) (c .before .before .before .before .store-body .result) (rw (c .before .before .before .before .before .before .leaf-start .ensures) at (c .before .before .before .before .store-body .ensures)) in omega (arith, e .0, e .1)
 
 -- src/objects.rt:46:5
 store-object-store-row-requires : (t : ℕ) → store-object-lts.Need-store-row-requires (
@@ -635,7 +641,7 @@ store-object-store-row-requires : (t : ℕ) → store-object-lts.Need-store-row-
   store-row-reads.Asked,
   store-row-reads.Learnt,
 ) (store-object-at t) store-object.Post
-store-object-store-row-requires t c κs = ?
+store-object-store-row-requires t c κs = leaf-row (c .before .before .before .before .before .before .before .before .before .before .before .before .args .file .now) (c .before .before .before .before .before .before .before .before .before .before .before .shared-slice-known .given) (c .before .before .before .before .before .before .before .before .before .before .before .before .args .version) (c .before .before .before .before .before .before .before .before .before .before .before .before .args .deep) (c .before .before .before .before .before .before .before .before .before .before .before .before .args .at) (c .before .before .before .before .before .before .before .before .before .before .before .before .args .row) (c .before .before .before .before .before .before .before .before .before .before .before .before .args .to) (c .before .before .before .before .before .before .before .before .before .before .before .before .args .contents .now) (c .before .before .before .before .before .before .before .before .before .before .before .before .args .bodies .now) (c .before .before .before .before .before .before .before .before .before .before .before .before .pre .1) (c .before .before .before .before .before .before .before .before .char-at .result) (c .before .before .before .before .before .before .before .before .char-at .ensures) (c .before .before .before .before .before .before .before .if1 .left) .0
 
 -- src/objects.rt:56:14
 store-object-add-t23 : (t : ℕ) → store-object-lts.Need-add-t23 (
@@ -652,7 +658,7 @@ store-object-add-t23 : (t : ℕ) → store-object-lts.Need-add-t23 (
   store-row-reads.Asked,
   store-row-reads.Learnt,
 ) (store-object-at t) store-object.Post
-store-object-add-t23 t c = ?
+store-object-add-t23 t c = omega (arith, leaf-row (c .before .before .before .before .before .before .before .before .before .before .before .before .before .before .before .args .file .now) (c .before .before .before .before .before .before .before .before .before .before .before .before .before .before .shared-slice-known .given) (c .before .before .before .before .before .before .before .before .before .before .before .before .before .before .before .args .version) (c .before .before .before .before .before .before .before .before .before .before .before .before .before .before .before .args .deep) (c .before .before .before .before .before .before .before .before .before .before .before .before .before .before .before .args .at) (c .before .before .before .before .before .before .before .before .before .before .before .before .before .before .before .args .row) (c .before .before .before .before .before .before .before .before .before .before .before .before .before .before .before .args .to) (c .before .before .before .before .before .before .before .before .before .before .before .before .before .before .before .args .contents .now) (c .before .before .before .before .before .before .before .before .before .before .before .before .before .before .before .args .bodies .now) (c .before .before .before .before .before .before .before .before .before .before .before .before .before .before .before .pre .1) (c .before .before .before .before .before .before .before .before .before .before .before .char-at .result) (c .before .before .before .before .before .before .before .before .before .before .before .char-at .ensures) (c .before .before .before .before .before .before .before .before .before .before .if1 .left) .1)
 
 -- src/objects.rt:15:1
 store-object-same-length-3 : (t : ℕ) → store-object-lts.Need-same-length-3 (
@@ -669,7 +675,7 @@ store-object-same-length-3 : (t : ℕ) → store-object-lts.Need-same-length-3 (
   store-row-reads.Asked,
   store-row-reads.Learnt,
 ) (store-object-at t) store-object.Post
-store-object-same-length-3 t c = ?
+store-object-same-length-3 t c = leaf-stored (c .before .before .before .before .before .before .before .before .before .before .before .before .before .before .before .args .file .now) (c .before .before .before .before .before .before .before .before .before .before .before .before .before .before .shared-slice-known .given) (c .before .before .before .before .before .before .before .before .before .before .before .before .before .before .before .args .version) (c .before .before .before .before .before .before .before .before .before .before .before .before .before .before .before .args .deep) (c .before .before .before .before .before .before .before .before .before .before .before .before .before .before .before .args .at) (c .before .before .before .before .before .before .before .before .before .before .before .before .before .before .before .args .row) (c .before .before .before .before .before .before .before .before .before .before .before .before .before .before .before .args .to) (c .before .before .before .before .before .before .before .before .before .before .before .before .before .before .before .args .contents .now) (c .before .before .before .before .before .before .before .before .before .before .before .before .before .before .before .args .bodies .now) (c .before .before .before .before .before .before .before .before .before .before .before .before .before .before .before .pre .1) (c .before .before .before .before .before .before .before .before .before .before .before .char-at .result) (c .before .before .before .before .before .before .before .before .before .before .before .char-at .ensures) (c .before .before .before .before .before .before .before .before .before .before .if1 .left) (c .before .before .before .before .before .before .before .store-body .last .1 .1 .1 .1 .0) (c .before .before .before .before .before .before .before .store-body .result) (rw (c .before .before .before .before .before .before .before .before .before .leaf-start .ensures) at (c .before .before .before .before .before .before .before .store-body .ensures)) (c .before .before .before .before .before .before .before .before .before .before .before .before .before .before .before .args .parent) (c .before .before .before .leaf-kind .result) (c .before .before .store-row .last .0) (c .before .before .before .leaf-kind .ensures) (c .before .before .store-row .ensures) .same-rows
 
 -- src/objects.rt:15:1
 store-object-same-length-4 : (t : ℕ) → store-object-lts.Need-same-length-4 (
@@ -686,7 +692,7 @@ store-object-same-length-4 : (t : ℕ) → store-object-lts.Need-same-length-4 (
   store-row-reads.Asked,
   store-row-reads.Learnt,
 ) (store-object-at t) store-object.Post
-store-object-same-length-4 t c = ?
+store-object-same-length-4 t c = leaf-stored (c .before .before .before .before .before .before .before .before .before .before .before .before .before .before .before .args .file .now) (c .before .before .before .before .before .before .before .before .before .before .before .before .before .before .shared-slice-known .given) (c .before .before .before .before .before .before .before .before .before .before .before .before .before .before .before .args .version) (c .before .before .before .before .before .before .before .before .before .before .before .before .before .before .before .args .deep) (c .before .before .before .before .before .before .before .before .before .before .before .before .before .before .before .args .at) (c .before .before .before .before .before .before .before .before .before .before .before .before .before .before .before .args .row) (c .before .before .before .before .before .before .before .before .before .before .before .before .before .before .before .args .to) (c .before .before .before .before .before .before .before .before .before .before .before .before .before .before .before .args .contents .now) (c .before .before .before .before .before .before .before .before .before .before .before .before .before .before .before .args .bodies .now) (c .before .before .before .before .before .before .before .before .before .before .before .before .before .before .before .pre .1) (c .before .before .before .before .before .before .before .before .before .before .before .char-at .result) (c .before .before .before .before .before .before .before .before .before .before .before .char-at .ensures) (c .before .before .before .before .before .before .before .before .before .before .if1 .left) (c .before .before .before .before .before .before .before .store-body .last .1 .1 .1 .1 .0) (c .before .before .before .before .before .before .before .store-body .result) (rw (c .before .before .before .before .before .before .before .before .before .leaf-start .ensures) at (c .before .before .before .before .before .before .before .store-body .ensures)) (c .before .before .before .before .before .before .before .before .before .before .before .before .before .before .before .args .parent) (c .before .before .before .leaf-kind .result) (c .before .before .store-row .last .0) (c .before .before .before .leaf-kind .ensures) (c .before .before .store-row .ensures) .same-words
 
 -- src/objects.rt:15:1
 store-object-returns-2 : (t : ℕ) → store-object-lts.Need-returns-2 (
@@ -703,7 +709,7 @@ store-object-returns-2 : (t : ℕ) → store-object-lts.Need-returns-2 (
   store-row-reads.Asked,
   store-row-reads.Learnt,
 ) (store-object-at t) store-object.Post
-store-object-returns-2 t c = ?
+store-object-returns-2 t c = leaf-stored (c .before .before .before .before .before .before .before .before .before .before .before .before .before .before .before .args .file .now) (c .before .before .before .before .before .before .before .before .before .before .before .before .before .before .shared-slice-known .given) (c .before .before .before .before .before .before .before .before .before .before .before .before .before .before .before .args .version) (c .before .before .before .before .before .before .before .before .before .before .before .before .before .before .before .args .deep) (c .before .before .before .before .before .before .before .before .before .before .before .before .before .before .before .args .at) (c .before .before .before .before .before .before .before .before .before .before .before .before .before .before .before .args .row) (c .before .before .before .before .before .before .before .before .before .before .before .before .before .before .before .args .to) (c .before .before .before .before .before .before .before .before .before .before .before .before .before .before .before .args .contents .now) (c .before .before .before .before .before .before .before .before .before .before .before .before .before .before .before .args .bodies .now) (c .before .before .before .before .before .before .before .before .before .before .before .before .before .before .before .pre .1) (c .before .before .before .before .before .before .before .before .before .before .before .char-at .result) (c .before .before .before .before .before .before .before .before .before .before .before .char-at .ensures) (c .before .before .before .before .before .before .before .before .before .before .if1 .left) (c .before .before .before .before .before .before .before .store-body .last .1 .1 .1 .1 .0) (c .before .before .before .before .before .before .before .store-body .result) (rw (c .before .before .before .before .before .before .before .before .before .leaf-start .ensures) at (c .before .before .before .before .before .before .before .store-body .ensures)) (c .before .before .before .before .before .before .before .before .before .before .before .before .before .before .before .args .parent) (c .before .before .before .leaf-kind .result) (c .before .before .store-row .last .0) (c .before .before .before .leaf-kind .ensures) (c .before .before .store-row .ensures)
 
 pub +store-group+store-members+store-object-spec : {M : Type 1} → statement M
 +store-group+store-members+store-object-spec =
