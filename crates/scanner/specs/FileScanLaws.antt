@@ -62,6 +62,7 @@ module _ (file : List ℕ) (known : (i : ℕ) → Fits w8 (getD file i 0)) (v at
         says =
             ap (λ m. Scan.Refused n m) (sym (place-of file at (within .inside)))
             ∙ sym (ap (outerScan (length file) v words) (outer-parse v (drop at file) ∙ ap (λ o. andThen o (λ c rest. parse bytes (groupBody v (object v (depthLimit - 1))) rest)) (r .reads)));
+        few = tt;
       }
 
   module _ (c : ℕ) (is : t ≡ Turn.Value c) where
@@ -80,7 +81,7 @@ module _ (file : List ℕ) (known : (i : ℕ) → Fits w8 (getD file i 0)) (v at
       pub outer-stop : (n place : ℕ) → g ≡ Scan.Refused n place → ScannedOuter file v at words (Scan.Refused n place)
       outer-stop n place gone =
           let s : Stopped (groupBody v (object v 15)) file (at + 2) n place = stopped (groupBody v (object v 15)) (λ (os, d). rowsAll os) (λ (os, d). length (bodies (group os d) v)) file known (at + 2) 1 words n place (sym gone ∙ scanned .says) in
-          record { says = ap (λ m. Scan.Refused n m) (s .offset-is) ∙ sym (ap (outerScan (length file) v words) (from-group ∙ s .parsed)) }
+          record { says = ap (λ m. Scan.Refused n m) (s .offset-is) ∙ sym (ap (outerScan (length file) v words) (from-group ∙ s .parsed)); few = tt }
 
       module _ (next more kept : ℕ) (gone : g ≡ Scan.Done next more kept) where
         group-passed : Passed (groupBody v (object v 15)) (λ (os, d). rowsAll os) (λ (os, d). length (bodies (group os d) v)) file (at + 2) 1 words next more kept
@@ -89,6 +90,11 @@ module _ (file : List ℕ) (known : (i : ℕ) → Fits w8 (getD file i 0)) (v at
         inside : next ≤ length file
         inside = let e : Ended (length file) (at + 2) (Scan.Done next more kept) = subst (Ended (length file) (at + 2)) gone (scanned .ended) in e .1 .inside
 
+        few-counts : (more ≤ lengthLimit) × (kept ≤ lengthLimit)
+        few-counts =
+            let e : Ended (length file) (at + 2) (Scan.Done next more kept) = subst (Ended (length file) (at + 2)) gone (scanned .ended) in
+            (omega (arith, e .1 .few-rows, e .1 .inside, e .1 .short), omega (arith, e .1 .few-words, e .1 .inside, e .1 .short))
+
         pub outer-trailing : next < length file → ScannedOuter file v at words (Scan.Refused 13 next)
         outer-trailing h =
             let some-left : 0 < length (drop next file) = rw length-drop (omega arith) in
@@ -96,6 +102,7 @@ module _ (file : List ℕ) (known : (i : ℕ) → Fits w8 (getD file i 0)) (v at
               says =
                   ap (λ m. Scan.Refused 13 m) (sym (place-of file next inside))
                   ∙ sym (ap (outerScan (length file) v words) (from-group ∙ group-passed .parsed) ∙ outer-more (length file) v words (group-passed .value) (drop next file) some-left);
+              few = tt;
             }
 
         pub outer-ends : length file ≤ next → ScannedOuter file v at words (Scan.Done next more kept)
@@ -109,6 +116,7 @@ module _ (file : List ℕ) (known : (i : ℕ) → Fits w8 (getD file i 0)) (v at
                   ∙ ap (λ m. Scan.Done (length file) m kept) (p .rows-are ∙ Nat.add-comm 1 (rowsAll (p .value .0)) ∙ add-one (rowsAll (p .value .0)))
                   ∙ ap (λ m. Scan.Done (length file) (suc (rowsAll (p .value .0))) m) (p .words-are)
                   ∙ sym (ap (outerScan (length file) v words) (from-group ∙ p .parsed) ∙ outer-all (length file) v words (p .value .0) (p .value .1) (drop next file) none-left);
+              few = few-counts;
             }
 
 -- ---- the settings
@@ -147,6 +155,7 @@ module _ (file : List ℕ) (known : (i : ℕ) → Fits w8 (getD file i 0)) (v at
             ap (λ m. Scan.Refused n m) (s .offset-is)
             ∙ sym (ap (λ o. fileScan (length file) (reading (length file) (andThen o (λ s rest.
             andThen (parse bytes (outerGroup v) rest) (λ (members, description) rest₂. found (record { version = v; settings = s; members = members; description = description }) rest₂))))) (s .parsed));
+        few = tt;
       }
 
   module _ (next more kept : ℕ) (gone : b ≡ Scan.Done next more kept) where
@@ -163,6 +172,7 @@ module _ (file : List ℕ) (known : (i : ℕ) → Fits w8 (getD file i 0)) (v at
               ∙ outer-drawing (length file) v kept (p .value) (parse bytes (outerGroup v) (drop next file)) (p .words-are)
               ∙ sym (ap (λ o. fileScan (length file) (reading (length file) (andThen o (λ s rest.
               andThen (parse bytes (outerGroup v) rest) (λ (members, description) rest₂. found (record { version = v; settings = s; members = members; description = description }) rest₂))))) (p .parsed));
+          few = outer .few;
         }
 
 -- ---- the version
@@ -184,6 +194,7 @@ module _ (file : List ℕ) (within : Within (length file) 6 0) (t : Turn) (turne
         says =
             ap (λ m. Scan.Refused n m) (sym (place-of file 6 (within .inside)))
             ∙ sym (ap (λ o. fileScan (length file) (reading (length file) (andThen o (λ three rest. andThen (bytes .read versionChars rest) (λ c rest₂. fromSettings (c - versionZero) rest₂))))) (r .reads));
+        few = tt;
       }
 
   module _ (three : ℕ) (is : t ≡ Turn.Value three) where
@@ -201,7 +212,7 @@ module _ (file : List ℕ) (within : Within (length file) 6 0) (t : Turn) (turne
       pub version-fault : (n : ℕ) → u ≡ Turn.Fault n → ScannedVersion file 6 (Scan.Refused n 10)
       version-fault n at-fault =
           let r : Turned file 10 (kindOf Kind.Version) (Turn.Fault n) = rw at-fault at chars in
-          record { says = ap (λ m. Scan.Refused n m) (sym (place-of file 10 version-inside)) ∙ sym (from-chars (refused n (drop 10 file)) (r .reads)) }
+          record { says = ap (λ m. Scan.Refused n m) (sym (place-of file 10 version-inside)) ∙ sym (from-chars (refused n (drop 10 file)) (r .reads)); few = tt }
 
       module _ (c : ℕ) (allowed : u ≡ Turn.Value c) where
         pub version-of : (versionZero ≤ c) × (c ≤ versionZero + lastMinor) × Within (length file) 16 1
@@ -213,12 +224,12 @@ module _ (file : List ℕ) (within : Within (length file) 6 0) (t : Turn) (turne
         pub version-settings : (r : Scan) → ScannedSettings file (c - versionZero) 16 r → ScannedVersion file 6 r
         version-settings r s =
             let read : Turned file 10 (kindOf Kind.Version) (Turn.Value c) = rw allowed at chars in
-            record { says = s .says ∙ sym (from-chars (found c (drop 16 file)) (read .reads)) }
+            record { says = s .says ∙ sym (from-chars (found c (drop 16 file)) (read .reads)); few = s .few }
 
 -- ---- the file
 
 pub file-long : (file : List ℕ) → lengthLimit < length file → ScannedFile file (Scan.Refused 1 65535)
-file-long file h = record { says = sym (ap (λ t. fileScan (length file) (cond t (refusal 1 lengthLimit) (reading (length file) (parse bytes fileLayout file)))) (lt-ltb lengthLimit (length file) h)) }
+file-long file h = record { says = sym (ap (λ t. fileScan (length file) (cond t (refusal 1 lengthLimit) (reading (length file) (parse bytes fileLayout file)))) (lt-ltb lengthLimit (length file) h)); few = tt }
 
 module _ (file : List ℕ) (short : length file ≤ lengthLimit) (t : Turn) (turned : Turned file 0 (kindOf Kind.Magic) t) where
   as-read : (o : Outcome ℕ) → bytes .read (kindOf Kind.Magic) file ≡ o
@@ -230,7 +241,7 @@ module _ (file : List ℕ) (short : length file ≤ lengthLimit) (t : Turn) (tur
   pub magic-fault : (n : ℕ) → t ≡ Turn.Fault n → ScannedFile file (Scan.Refused n 0)
   magic-fault n is =
       let r : Turned file 0 (kindOf Kind.Magic) (Turn.Fault n) = rw is at turned in
-      record { says = ap (λ m. Scan.Refused n m) (sym (place-of file 0 (omega arith))) ∙ sym (as-read (refused n file) (r .reads)) }
+      record { says = ap (λ m. Scan.Refused n m) (sym (place-of file 0 (omega arith))) ∙ sym (as-read (refused n file) (r .reads)); few = tt }
 
   module _ (m : ℕ) (is : t ≡ Turn.Value m) where
     pub magic-within : Within (length file) 6 0
@@ -241,4 +252,4 @@ module _ (file : List ℕ) (short : length file ≤ lengthLimit) (t : Turn) (tur
     pub magic-version : (r : Scan) → ScannedVersion file 6 r → ScannedFile file r
     magic-version r s =
         let read : Turned file 0 (kindOf Kind.Magic) (Turn.Value m) = rw is at turned in
-        record { says = s .says ∙ sym (as-read (found m (drop 6 file)) (read .reads)) }
+        record { says = s .says ∙ sym (as-read (found m (drop 6 file)) (read .reads)); few = s .few }

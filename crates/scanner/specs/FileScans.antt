@@ -1,11 +1,12 @@
 -- What scanning a file comes to, by what reading it comes to.
 use mathlib.Core.Path.{_≡_}
-use Prim.Native.Nat.{ℕ, suc, _+_, _-_}
+use Prim.Native.Nat.{ℕ, suc, _+_, _-_, _≤_}
 use mathlib.Core.List.{List, [], _∷_}
 use lib.ListN.{length, drop}
 use Rattle.format.specs.Codec.{Outcome, found, refused, andThen}
 use Rattle.format.specs.Layout.{parse}
 use Rattle.drawing.specs.Codecs.{bytes}
+use Rattle.drawing.specs.Limits.{lengthLimit}
 use Rattle.drawing.specs.String.{String}
 use Rattle.drawing.specs.Object.{group, Objects}
 use Rattle.drawing.specs.Fields.{versionLength, versionChars, versionZero}
@@ -39,15 +40,24 @@ abbrev pub fromVersion : List ℕ → Outcome Drawing
 fromVersion us =
     andThen (bytes .read versionLength us) (λ three rest. andThen (bytes .read versionChars rest) (λ c rest₂. fromSettings (c - versionZero) rest₂))
 
+-- The counts are small: a row and a word take at least a byte each.
+abbrev pub Few : Scan → Type 0
+Few (Scan.Done at rows words) = (rows ≤ lengthLimit) × (words ≤ lengthLimit)
+Few (Scan.Refused n at) = Unit {0}
+
 -- What each part of the scan of a file answers.
 pub record ScannedOuter (file : List ℕ) (version at words : ℕ) (r : Scan) : Type 0 where
   pub says : r ≡ outerScan (length file) version words (parse bytes (outerGroup version) (drop at file))
+  pub few : Few r
 
 pub record ScannedSettings (file : List ℕ) (version at : ℕ) (r : Scan) : Type 0 where
   pub says : r ≡ fileScan (length file) (reading (length file) (fromSettings version (drop at file)))
+  pub few : Few r
 
 pub record ScannedVersion (file : List ℕ) (at : ℕ) (r : Scan) : Type 0 where
   pub says : r ≡ fileScan (length file) (reading (length file) (fromVersion (drop at file)))
+  pub few : Few r
 
 pub record ScannedFile (file : List ℕ) (r : Scan) : Type 0 where
   pub says : r ≡ fileScan (length file) (drawingOf file)
+  pub few : Few r

@@ -1,0 +1,4 @@
+pub mod FileHere
+pub mod Reads
+pub mod FillLaws
+pub mod ReadLaws
