@@ -21,7 +21,15 @@ fn every_number_of_the_reader_occurs_at_several_places() {
             (0..=13).collect::<Vec<_>>()
         );
         assert!(numbers.iter().all(|(_, count)| *count >= 3), "{numbers:?}");
-        assert!(cases.len() <= 150 && bytes(&cases) < 1_500_000);
+        assert!(cases.len() <= 1_000 && bytes(&cases) < 3_000_000);
+    }
+}
+
+#[test]
+fn the_longest_file_is_accepted_and_one_byte_more_is_not() {
+    let cases = reads::cases(1);
+    for (length, first) in [(65_535, "0"), (65_536, "1")] {
+        assert!(cases.iter().any(|case| case.data.len() == length && number(case) == first));
     }
 }
 

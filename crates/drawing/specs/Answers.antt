@@ -1,4 +1,5 @@
 -- What each call answers, for every input: its answer, and what the lent memory then holds (01, 'Numbers given back').
+use mathlib.Core.Path.{_≡_}
 use mathlib.Core.Option.{Option, none, some}
 use Prim.Native.Nat.{ℕ, zero, suc, _/_}
 use mathlib.Core.List.{List, _++_}
@@ -50,6 +51,11 @@ readFrom (drawing d) total contents bodies = stored (roomFault d contents bodies
 
 abbrev pub readResult : (file contents bodies : List ℕ) → ReadResult
 readResult file contents bodies = readFrom (drawingOf file) (length file) contents bodies
+
+-- What `read` promises, for every file and any lent memory: its answer and what both runs then hold are these. A record, so that a proof that holds
+-- it need not look into the definition.
+pub record Reads (file contents bodies : List ℕ) (r : Answer) (contents′ bodies′ : List ℕ) : Type 0 where
+  pub says : record { answer = r; contents = contents′; bodies = bodies′ } ≡ readResult file contents bodies
 
 -- ---- checking a table
 

@@ -37,7 +37,7 @@ use Rattle.store.specs.SpliceLaws.{splice-behind, length-splice}
 use Rattle.store.specs.Rows.{word-digit}
 use Rattle.store.specs.ObjectStores.{tabled, RoomFor, groupAt, objectRows, StorableObject, StoredObject}
 use Rattle.reader.specs.FileHere.{Parts, parts}
-use Rattle.reader.specs.Reads.{Readable, Filled}
+use Rattle.reader.specs.Fills.{Readable, Filled}
 
 -- What is stored at the beginning overwrites it.
 splice-first : (ws s : List ℕ) → splice 0 ws s ≡ overwrite ws s

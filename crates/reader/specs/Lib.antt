@@ -1,4 +1,4 @@
 pub mod FileHere
-pub mod Reads
+pub mod Fills
 pub mod FillLaws
 pub mod ReadLaws

@@ -16,11 +16,11 @@ use Rattle.drawing.specs.Limits.{lengthLimit}
 use Rattle.drawing.specs.Fields.{unless, orElse}
 use Rattle.drawing.specs.Drawing.{Drawing, Reading, drawing, refusal, reading, drawingOf, file as fileLayout}
 use Rattle.drawing.specs.Table.{rowWidth, contentsOf, bodiesOf}
-use Rattle.drawing.specs.Answers.{answer, rowsOf, wordCount, ReadResult, roomFault, stored, readFrom, readResult, overwrite}
+use Rattle.drawing.specs.Answers.{answer, rowsOf, wordCount, ReadResult, roomFault, stored, readFrom, readResult, Reads, overwrite}
 use Rattle.scanner.specs.declared.Scan.{Scan}
 use Rattle.scanner.specs.declared.Scan.the-variants as Scan
 use Rattle.scanner.specs.FileScans.{fileScan, ScannedFile}
-use Rattle.reader.specs.Reads.{Reads, Readable, Filled}
+use Rattle.reader.specs.Fills.{Readable, Filled}
 
 -- An offset is within the limit.
 offset-read : (total n o : ℕ) (q : Outcome Drawing) → total ≤ lengthLimit → reading total q ≡ refusal n o → o ≤ lengthLimit

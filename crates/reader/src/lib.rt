@@ -13,7 +13,8 @@ ghost use mathlib.Core.Path.{_≡_};
 ghost use lib.ListN.{length};
 ghost use Rattle.scanner.specs.declared.Scan.the-variants as Scan;
 ghost use Rattle.scanner.specs.FileScans.{ScannedFile};
-ghost use Rattle.reader.specs.Reads.{Reads, Readable, Filled};
+ghost use Rattle.drawing.specs.Answers.{Reads};
+ghost use Rattle.reader.specs.Fills.{Readable, Filled};
 
 // The table of a file that holds a drawing, where there is room for it.
 fn store_file(file: &[u8], contents: &mut [u32], bodies: &mut [u32])

@@ -1,5 +1,6 @@
 //! Good drawings of every version, from a seed.
 
+pub mod edges;
 mod parts;
 pub mod special;
 mod values;
@@ -17,6 +18,8 @@ pub struct Maker {
     pub labels: Vec<Chars>,
     /// The longest string.
     pub longest: usize,
+    /// Whether every float and double that is free is a NaN.
+    pub only_nans: bool,
     /// How readily groups stand in groups: one object in so many is a group.
     group_once_in: usize,
 }
@@ -45,7 +48,7 @@ impl Maker {
         let all = all_labels();
         let labels = (0..random.within(1, 4)).map(|_| random.pick(&all).clone()).collect();
         let group_once_in = *random.pick(&[2, 4, 4, 8, 30]);
-        Maker { random, version, labels, longest: 60, group_once_in }
+        Maker { random, version, labels, longest: 60, only_nans: false, group_once_in }
     }
 
     /// Below 1.2 every description is empty.

@@ -8,7 +8,16 @@ use crate::write;
 /// One drawing with every kind of object, paint, marker, segment and optional field of its version,
 /// groups down to the deepest, and a full chain.
 pub fn sampler(seed: u64, version: Version) -> Drawing {
-    let mut maker = Maker::new(seed, version);
+    sample(Maker::new(seed, version))
+}
+
+/// The same with a NaN in every float and double that is free.
+pub fn nan_sampler(seed: u64, version: Version) -> Drawing {
+    sample(Maker { only_nans: true, ..Maker::new(seed, version) })
+}
+
+fn sample(mut maker: Maker) -> Drawing {
+    let version = maker.version;
     maker.longest = 6;
     let mut all = maker.all_settings();
     all.paper = maker.own_paper();

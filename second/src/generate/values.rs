@@ -37,6 +37,19 @@ const DOUBLES: [Double; 14] = [
     0x7FF0_0001_0000_0000,
 ];
 
+/// Quiet and signalling NaNs with payloads, where nothing but the bits tells them apart.
+const NAN_FLOATS: [Float; 6] = [0x7FC0_0000, 0x7FC1_2345, 0xFFFF_FFFF, 0x7F80_0001, 0xFFA0_5A5A, 0x7FA0_0000];
+
+const NAN_DOUBLES: [Double; 7] = [
+    0x7FF0_0000_0000_0001,
+    0xFFF0_0000_0000_0001,
+    0x7FF8_0000_DEAD_BEEF,
+    0xFFFF_FFFF_FFFF_FFFF,
+    0x7FF4_0000_0000_0000,
+    0x7FF0_0001_0000_0000,
+    0xFFF4_5A5A_A5A5_0F0F,
+];
+
 /// Components at the ends of their range: 0, -0, 1, and their neighbours inside it.
 const COMPONENTS: [Float; 7] =
     [0x0000_0000, 0x8000_0000, 0x3F80_0000, 0x3F7F_FFFF, 0x0000_0001, 0x0080_0000, 0x3F00_0000];
@@ -50,6 +63,9 @@ const CHARS: [u16; 7] = [0x0000, 0xFFFF, 0xD800, 0xDFFF, 0x0100, 0x0047, 0x4700]
 
 impl Maker {
     pub fn float(&mut self) -> Float {
+        if self.only_nans {
+            return *self.random.pick(&NAN_FLOATS);
+        }
         match self.random.below(4) {
             0 => *self.random.pick(&FLOATS),
             1 => self.random.word(),
@@ -58,6 +74,9 @@ impl Maker {
     }
 
     pub fn double(&mut self) -> Double {
+        if self.only_nans {
+            return *self.random.pick(&NAN_DOUBLES);
+        }
         match self.random.below(4) {
             0 => *self.random.pick(&DOUBLES),
             1 => self.random.bits(),

@@ -1,4 +1,4 @@
-//! Files that are refused: each number from 2 to 13 in several versions and productions.
+//! Files that are refused: each number from 2 to 13 in every version and every sort of field.
 
 use crate::damage::faults::{faults, Fault};
 use crate::damage::fields::{of_file, Field};
@@ -6,7 +6,7 @@ use crate::damage::files::{longer, put};
 use crate::generate::special::sampler;
 use crate::layout::Kind;
 use crate::random::Random;
-use crate::version::Version;
+use crate::version::{Version, DEEPEST_GROUP};
 use crate::write;
 
 type Files = Vec<(String, Vec<u8>)>;
@@ -47,11 +47,10 @@ pub fn add(files: &mut Files, seed: u64) {
     orders(files, seed);
 }
 
-/// 2 in a narrow and in a wide field: before it or in its middle.
+/// 2 in a field of each sort: before it or in its middle.
 fn cuts(files: &mut Files, whole: &Whole, random: &mut Random) {
-    for narrow in [true, false] {
-        let such = whole.fields.iter().filter(|field| (field.kind.width() < 8) == narrow);
-        let such: Vec<&Field> = such.collect();
+    for sort in sorts(whole.fields.iter().map(|field| sort_of(field.kind))) {
+        let such: Vec<&Field> = whole.fields.iter().filter(|field| sort_of(field.kind) == sort).collect();
         let field = random.pick(&such);
         let kept = field.place + random.below(field.kind.width());
         let what = format!("2: cut to {kept} bytes, {} at {}", field.kind.name(), field.place);
@@ -59,44 +58,50 @@ fn cuts(files: &mut Files, whole: &Whole, random: &mut Random) {
     }
 }
 
-/// How many places each number is put at in every version; m4 is 3.
-const PLACES: [(u32, usize); 9] = [(4, 1), (5, 2), (6, 2), (7, 2), (8, 2), (9, 1), (10, 2), (11, 1), (12, 1)];
+/// How many faults of each sort of field and each number are put into every version.
+const PLACES: usize = 2;
 
-/// Each number from 4 to 12 that this version has. The kinds of field take turns.
+/// Each number from 3 to 12 in each sort of field of this version.
 fn single_faults(files: &mut Files, whole: &Whole, random: &mut Random) {
-    for (number, places) in PLACES {
-        let pairs = pairs(whole, number);
-        let kinds = kinds(&pairs);
-        for place in 0..places.min(pairs.len()) {
-            let turn = usize::from(whole.version.minor()) * places + place;
-            let kind = kinds[turn % kinds.len()];
-            let such: Vec<_> = pairs.iter().filter(|(field, _)| field.kind.name() == kind).collect();
-            let (field, fault) = random.pick(&such);
+    let all = all_faults(whole);
+    let case_of = |(field, fault): &(Field, Fault)| (sort_of(field.kind), fault.number);
+    for case in sorts(all.iter().map(case_of)) {
+        let mut such: Vec<_> = all.iter().filter(|pair| case_of(pair) == case).collect();
+        for _ in 0..PLACES.min(such.len()) {
+            let (field, fault) = such.swap_remove(random.below(such.len()));
+            let (number, kind) = (fault.number, field.kind.name());
             let what = format!("{number}: {kind} of {:#x} at {}", fault.value, field.place);
             whole.add_put(files, &what, field, fault.value);
         }
     }
 }
 
-/// The names of the kinds of field that can have these faults, each once.
-fn kinds(pairs: &[(Field, Fault)]) -> Vec<&'static str> {
-    let mut names = Vec::new();
-    for (field, _) in pairs {
-        let name = field.kind.name();
-        if !names.contains(&name) {
-            names.push(name);
-        }
+/// Fields of one sort are at fault in the same ways, whatever the depth of an object inside.
+fn sort_of(kind: Kind) -> Kind {
+    match kind {
+        Kind::ObjectId { depth: 2..=DEEPEST_GROUP } => Kind::ObjectId { depth: 2 },
+        other => other,
     }
-    names
 }
 
-/// All faults of this number, in file order.
-fn pairs(whole: &Whole, number: u32) -> Vec<(Field, Fault)> {
+/// Each sort once, in the order in which they come first.
+fn sorts<T: PartialEq>(all: impl Iterator<Item = T>) -> Vec<T> {
+    let mut sorts = Vec::new();
+    for sort in all {
+        if !sorts.contains(&sort) {
+            sorts.push(sort);
+        }
+    }
+    sorts
+}
+
+/// All faults that can be put into the file, in file order.
+fn all_faults(whole: &Whole) -> Vec<(Field, Fault)> {
     let of_field = |field: &Field| {
         let field = *field;
         faults(field.kind, field.value).into_iter().map(move |fault| (field, fault))
     };
-    whole.fields.iter().flat_map(of_field).filter(|(_, fault)| fault.number == number).collect()
+    whole.fields.iter().flat_map(of_field).collect()
 }
 
 /// A count that goes far past the file's end: the next element that is no such element decides.

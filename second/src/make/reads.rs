@@ -3,9 +3,12 @@
 use super::{broken, hash, Case, FILL};
 use crate::answer::Answer;
 use crate::damage::files;
-use crate::generate::special::{of_depth, padded, plain_bitmap, plain_drawing, sampler, with_chains};
-use crate::generate::{self, chars, Maker};
-use crate::model::{Drawing, Object, Paper, Settings};
+use crate::generate::edges::{at_ends, every_pairing, every_settings};
+use crate::generate::special::{
+    nan_sampler, of_depth, padded, plain_bitmap, plain_drawing, sampler, with_chains,
+};
+use crate::generate::{self, chars};
+use crate::model::{Drawing, Object};
 use crate::plans;
 use crate::random::Random;
 use crate::table::read_call;
@@ -87,35 +90,20 @@ fn limits(files: &mut Files, seed: u64) {
     files.push(("70,000 zeros".into(), vec![0; 70_000]));
 }
 
-/// Every kind of part in every version, and drawings of all sorts.
+/// Every kind of part in every version, both ends of every range, and drawings of all sorts.
 fn good(files: &mut Files, seed: u64) {
     for version in Version::ALL {
         add(files, "every kind of part", version, &sampler(seed, version));
+        add(files, "every gradient and length of chain", version, &every_pairing(seed, version));
+        add(files, "every range at its low end", version, &at_ends(seed, version, false));
+        add(files, "every range at its high end", version, &at_ends(seed, version, true));
+        add(files, "NaN payloads in every free float and double", version, &nan_sampler(seed, version));
+        for drawing in every_settings(seed, version) {
+            add(files, "every kind of settings", version, &drawing);
+        }
         let drawing = generate::drawing(seed + 1, version, 900);
         add(files, "some drawing", version, &drawing);
     }
-    let bits = plain_nan_drawing();
-    add(files, "NaN payloads in every free double", bits.version, &bits);
-    let [.., v3, v4] = Version::ALL;
-    for (version, paper) in [(v3, Maker::new(seed, v3).own_paper()), (v4, Paper { id: 72, own: None })] {
-        let mut drawing = plain_drawing(version, vec![Object::Bitmap(plain_bitmap(1))]);
-        drawing.settings = Settings::PaperOnly(paper);
-        add(files, "paper only", version, &drawing);
-    }
-}
-
-/// Quiet and signalling NaNs, and -0, where nothing but the bits tells them apart.
-fn plain_nan_drawing() -> Drawing {
-    let mut bitmap = plain_bitmap(1);
-    bitmap.transformation = [
-        0x7FF0_0000_0000_0001,
-        0xFFF0_0000_0000_0001,
-        0x7FF8_0000_DEAD_BEEF,
-        0xFFFF_FFFF_FFFF_FFFF,
-        0x7FF4_0000_0000_0000,
-        0x8000_0000_0000_0000,
-    ];
-    plain_drawing(Version::ALL[1], vec![Object::Bitmap(bitmap)])
 }
 
 fn noise(files: &mut Files, seed: u64) {

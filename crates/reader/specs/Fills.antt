@@ -1,17 +1,12 @@
--- What reading promises: its answer and the lent memory are the definition's; and what its second pass needs and does.
+-- What the second pass over a file needs, and what it does.
 use mathlib.Core.Path.{_≡_}
 use Prim.Native.Nat.{ℕ, _*_, _≤_}
 use mathlib.Core.List.{List}
 use lib.ListN.{length}
-use Rattle.drawing.specs.declared.Answer.{Answer}
 use Rattle.drawing.specs.Limits.{lengthLimit}
 use Rattle.drawing.specs.Drawing.{Drawing, drawing, drawingOf}
 use Rattle.drawing.specs.Table.{rowWidth, contentsOf, bodiesOf}
-use Rattle.drawing.specs.Answers.{ReadResult, readResult, overwrite, rowsOf, wordCount}
-
--- The answer and what the lent memory then holds, for every file and any memory.
-pub record Reads (file contents bodies : List ℕ) (r : Answer) (contents′ bodies′ : List ℕ) : Type 0 where
-  pub says : record { answer = r; contents = contents′; bodies = bodies′ } ≡ readResult file contents bodies
+use Rattle.drawing.specs.Answers.{overwrite, rowsOf, wordCount}
 
 -- The file holds a drawing, and there is room for its table.
 pub record Readable (file contents bodies : List ℕ) : Type 0 where
