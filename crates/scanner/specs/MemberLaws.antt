@@ -58,11 +58,11 @@ pub record Onward (file : List ℕ) (v deep members from above before left at rs
   pub forward : from ≤ at
   pub placed : Placed (length file) at rs ws
 
-module _ (file : List ℕ) (v deep members from above before : ℕ) where
+module _ {file : List ℕ} {v deep members from above before : ℕ} where
   pub members-begin : Placed (length file) from above before → Onward file v deep members from above before members from above before
   members-begin placed = record { same = refl; forward = omega arith; placed = placed }
 
-  module _ (left at rs ws : ℕ) (on : Onward file v deep members from above before left at rs ws) where
+  module _ {left at rs ws : ℕ} (on : Onward file v deep members from above before left at rs ws) where
     pub members-end : (0 < left → ⊥) → ScannedMembers file v deep members from above before (Scan.Done at rs ws)
     members-end none = by left (on .same) none
       where
@@ -87,9 +87,9 @@ module _ (file : List ℕ) (v deep members from above before : ℕ) where
         ∙ ap (λ n. membersCounted v (length file) rs ws (parse bytes (repeat n (object v deep)) (drop at file))) (sym e)
         ∙ ap (membersCounted v (length file) rs ws) (parse-threaded bytes m (λ s. object v deep) (λ s a. s) tt (drop at file))
 
-    module _ (known : (i : ℕ) → Fits w8 (getD file i 0)) (some-left : 0 < left) (r : Scan) (scanned : ScannedObject file v deep at rs ws r) where
-      pub members-stop : (n place : ℕ) → r ≡ Scan.Refused n place → ScannedMembers file v deep members from above before (Scan.Refused n place)
-      members-stop n place is =
+    module _ (known : (i : ℕ) → Fits w8 (getD file i 0)) (some-left : 0 < left) {r : Scan} (scanned : ScannedObject file v deep at rs ws r) where
+      pub members-stop : {n place : ℕ} → r ≡ Scan.Refused n place → ScannedMembers file v deep members from above before (Scan.Refused n place)
+      members-stop {n} {place} is =
           let s : Stopped (object v deep) file at n place = stopped (object v deep) rows (λ o. length (bodies o v)) file known at rs ws n place (sym is ∙ scanned .says) in
           record {
             says =
@@ -98,8 +98,8 @@ module _ (file : List ℕ) (v deep members from above before : ℕ) where
             ended = tt;
           }
 
-      pub members-again : (next more kept : ℕ) → r ≡ Scan.Done next more kept → Onward file v deep members from above before (left - 1) next more kept
-      members-again next more kept is =
+      pub members-again : {next more kept : ℕ} → r ≡ Scan.Done next more kept → Onward file v deep members from above before (left - 1) next more kept
+      members-again {next} {more} {kept} is =
           let done : ScannedObject file v deep at rs ws (Scan.Done next more kept) = rw is at scanned in
           let p : Passed (object v deep) rows (λ o. length (bodies o v)) file at rs ws next more kept =
           passed (object v deep) rows (λ o. length (bodies o v)) file known at rs ws (on .placed .inside) next more kept (done .says) in

@@ -16,18 +16,18 @@ pub record Onward (file : List ℕ) (v : ℕ) (start : Expect) (from place : ℕ
   pub storable : Storable file v state at (length s) to
   pub same-length : length s ≡ length before
 
-module _ (file : List ℕ) (v : ℕ) (start : Expect) (from place : ℕ) (before : List ℕ) where
+module _ {file : List ℕ} {v : ℕ} {start : Expect} {from place : ℕ} {before : List ℕ} where
   pub onward-begins : Storable file v start from (length before) place → Onward file v start from place before start from place before
   onward-begins storable = record { same = refl; storable = storable; same-length = refl }
 
-  module _ (state : Expect) (at to : ℕ) (s : List ℕ) (on : Onward file v start from place before state at to s) (t : List ℕ) (r : Move) (moved : Moved file v state at to s t r) where
-    pub onward-less : (next : Expect) (reached filled : ℕ) → r ≡ Move.More next reached filled → length file - reached < length file - at
-    onward-less next reached filled is =
+  module _ {state : Expect} {at to : ℕ} {s : List ℕ} (on : Onward file v start from place before state at to s) {t : List ℕ} {r : Move} (moved : Moved file v state at to s t r) where
+    pub onward-less : {next : Expect} {reached filled : ℕ} → r ≡ Move.More next reached filled → length file - reached < length file - at
+    onward-less {next} {reached} {filled} is =
         let b : StorableBehind file v at (length t) (Move.More next reached filled) = subst (StorableBehind file v at (length t)) is (moved .behind) in
         omega (arith, b .0, b .1 .inside)
 
-    pub onward-again : (next : Expect) (reached filled : ℕ) → r ≡ Move.More next reached filled → Onward file v start from place before next reached filled t
-    onward-again next reached filled is =
+    pub onward-again : {next : Expect} {reached filled : ℕ} → r ≡ Move.More next reached filled → Onward file v start from place before next reached filled t
+    onward-again {next} {reached} {filled} is =
         let m : Moved file v state at to s t (Move.More next reached filled) = subst (Moved file v state at to s t) is moved in
         record { same = on .same ∙ m .says; storable = m .behind .1; same-length = m .same-length ∙ on .same-length }
 

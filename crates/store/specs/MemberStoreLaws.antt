@@ -90,12 +90,12 @@ onward-at {file} {v} {deep} {parent} {members} {from} {first} {start} {cs₀} {b
     (subst (λ x. Onward file v deep parent members from first start cs₀ bs₀ left at′ x to cs bs) r
     (subst (λ x. Onward file v deep parent members from first start cs₀ bs₀ left x row to cs bs) a on))))
 
-module _ (file : List ℕ) (v deep parent members from first start : ℕ) (cs₀ bs₀ : List ℕ) where
+module _ {file : List ℕ} {v deep parent members from first start : ℕ} {cs₀ bs₀ : List ℕ} where
   pub members-begin : StorableMembers (membersAt file v deep members from) file v from first start cs₀ bs₀
       → Onward file v deep parent members from first start cs₀ bs₀ members from first start cs₀ bs₀
   members-begin storable = record { same = refl; storable = storable; same-rows = refl; same-words = refl }
 
-  module _ (left at row to : ℕ) (cs bs : List ℕ) (on : Onward file v deep parent members from first start cs₀ bs₀ left at row to cs bs) where
+  module _ {left at row to : ℕ} {cs bs : List ℕ} (on : Onward file v deep parent members from first start cs₀ bs₀ left at row to cs bs) where
     pub members-end : (0 < left → ⊥) → StoredMembers (membersAt file v deep members from) (length file) v parent first start cs₀ bs₀ cs bs (record { at = at; row = row; to = to })
     members-end none = by left (on .same) none
       where
@@ -167,9 +167,9 @@ module _ (file : List ℕ) (v deep parent members from first start : ℕ) (cs₀
             room = subst (RoomFor rows (λ x. bodies x v) (on .storable .allRows) (on .storable .allWords) row to) (sym (first-here .object-is)) (split .0, split .1);
           }
 
-      pub members-again : (cs′ bs′ : List ℕ) (r : Reach) → StoredObject (objectAt file v deep at) (length file) v parent row to cs bs cs′ bs′ r
+      pub members-again : {cs′ bs′ : List ℕ} {r : Reach} → StoredObject (objectAt file v deep at) (length file) v parent row to cs bs cs′ bs′ r
           → Onward file v deep parent members from first start cs₀ bs₀ (left - 1) (r .at) (r .row) (r .to) cs′ bs′
-      members-again cs′ bs′ r stored =
+      members-again {cs′} {bs′} {r} stored =
           let says : record { contents = cs′; bodies = bs′; at = r .at; row = r .row; to = r .to } ≡ tabled rows (objectRows v parent) (λ x. bodies x v) (length file) row to cs bs (found (first-here .o) (drop (first-here .next) file)) =
           stored .says ∙ ap (tabled rows (objectRows v parent) (λ x. bodies x v) (length file) row to cs bs) (first-here .object-is) in
           let cs-is : cs′ ≡ splice (rowWidth * row) (contents (first-here .o) v parent row to) cs = ap (λ t. t .contents) says in

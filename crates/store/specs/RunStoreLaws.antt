@@ -28,14 +28,14 @@ pub record Storing (file start : List ℕ) (from to w u count at place left : �
   pub rest : Room file at w u left place (length s)
   pub same-length : length s ≡ length start
 
-module _ (file start : List ℕ) (from to w u count : ℕ) where
+module _ {file start : List ℕ} {from to w u count : ℕ} where
   pub storing-begins : Room file from w u count to (length start) → Storing file start from to w u count from to count start
   storing-begins room = record { same = refl; rest = room; same-length = refl }
 
-  module _ (at place left : ℕ) (s : List ℕ) (on : Storing file start from to w u count at place left s) where
-    pub storing-again : 0 < left → (t : List ℕ) → t ≡ splice place (digits (2 ^ 32) u (number 256 (take w (drop at file)))) s
+  module _ {at place left : ℕ} {s : List ℕ} (on : Storing file start from to w u count at place left s) where
+    pub storing-again : 0 < left → {t : List ℕ} → t ≡ splice place (digits (2 ^ 32) u (number 256 (take w (drop at file)))) s
         → Storing file start from to w u count (at + w) (place + u) (left - 1) t
-    storing-again more t is = by left (on .same) (on .rest) more
+    storing-again more {t} is = by left (on .same) (on .rest) more
       where
         word : List ℕ
         word = digits (2 ^ 32) u (number 256 (take w (drop at file)))

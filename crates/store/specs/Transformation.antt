@@ -60,13 +60,13 @@ length-words (x ∷ xs) =
     ∙ ap₂ (λ a b. a + b) (length-digits (2 ^ 32) 2 x) (length-words xs)
     ∙ omega arith
 
-module _ (t start : List ℕ) (to : ℕ) where
+module _ {t start : List ℕ} {to : ℕ} where
   pub storing-begins : to + 2 * length t ≤ length start → Storing t start to 0 start
   storing-begins room = let here : to ≡ to + 2 * 0 = omega arith in record { same = ap (λ n. splice n (doubleWords t) start) here; room = room; same-length = refl }
 
-  module _ (i : ℕ) (s : List ℕ) (on : Storing t start to i s) where
-    pub storing-again : i < length t → (u : List ℕ) → u ≡ splice (to + 2 * i) (digits (2 ^ 32) 2 (getD t i 0)) s → Storing t start to (i + 1) u
-    storing-again more u is =
+  module _ {i : ℕ} {s : List ℕ} (on : Storing t start to i s) where
+    pub storing-again : i < length t → {u : List ℕ} → u ≡ splice (to + 2 * i) (digits (2 ^ 32) 2 (getD t i 0)) s → Storing t start to (i + 1) u
+    storing-again more {u} is =
         let word = digits (2 ^ 32) 2 (getD t i 0) in
         let behind = doubleWords (drop (suc i) t) in
         let long : length (digits (2 ^ 32) 2 (getD t i 0)) ≡ 2 = length-digits (2 ^ 32) 2 (getD t i 0) in

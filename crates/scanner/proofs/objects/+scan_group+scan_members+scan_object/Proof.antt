@@ -1,3 +1,4 @@
+-- `scanner::objects::scan_object`, `scan_group` and `scan_members`, which call one another, meet their contracts: the depth left falls at each group.
 use Rattle.scanner.specs.MemberLaws.{Onward, members-begin, members-end, members-stop, members-again, group-fault, group-members, group-stop, group-tail, group-end}
 use Rattle.scanner.specs.ObjectScanLaws.{scan-object-fault, scan-object-id, scan-object-deeper, scan-object-leaf, scan-object-group}
 use Rattle.fields.specs.declared.turn.Turn.the-variants as Turn
@@ -59,7 +60,6 @@ abbrev scan-object-below : ℕ → In 1 scan-object-kinds.ps
 scan-object-below t =
     and 1 scan-object-kinds.ps (falls 1 scan-object-kinds.ps _<_ μ-scan-object t) scan-object.Pre
 
--- src/objects.rt:59:9
 scan-group-turn-at-requires : (t : ℕ) → scan-group-lts.Need-turn-at-requires (
   turn-at-reads.Asked,
   turn-at-reads.Learnt,
@@ -70,7 +70,6 @@ scan-group-turn-at-requires : (t : ℕ) → scan-group-lts.Need-turn-at-requires
 ) (scan-group-at t) scan-group.Post
 scan-group-turn-at-requires t c κs = c .before .pre .1 .inside
 
--- src/objects.rt:61:21
 scan-group-enum-known-count : (t : ℕ) → scan-group-lts.Need-enum-known-count (
   turn-at-reads.Asked,
   turn-at-reads.Learnt,
@@ -81,7 +80,6 @@ scan-group-enum-known-count : (t : ℕ) → scan-group-lts.Need-enum-known-count
 ) (scan-group-at t) scan-group.Post
 scan-group-enum-known-count t c = search needs
 
--- src/objects.rt:65:21
 scan-group-enum-known-count-2 : (t : ℕ) → scan-group-lts.Need-enum-known-count-2 (
   turn-at-reads.Asked,
   turn-at-reads.Learnt,
@@ -92,7 +90,6 @@ scan-group-enum-known-count-2 : (t : ℕ) → scan-group-lts.Need-enum-known-cou
 ) (scan-group-at t) scan-group.Post
 scan-group-enum-known-count-2 t c = search needs
 
--- src/objects.rt:66:69
 scan-group-add-scan-members : (t : ℕ) → scan-group-lts.Need-add-scan-members (
   turn-at-reads.Asked,
   turn-at-reads.Learnt,
@@ -103,7 +100,6 @@ scan-group-add-scan-members : (t : ℕ) → scan-group-lts.Need-add-scan-members
 ) (scan-group-at t) scan-group.Post
 scan-group-add-scan-members t c = let p = group-members (c .before .before .before .before .before .args .file .now) (c .before .before .before .before .shared-slice-known .given) (c .before .before .before .before .before .args .version) (c .before .before .before .before .before .args .deep) (c .before .before .before .before .before .args .at) (c .before .before .before .before .before .args .rows) (c .before .before .before .before .before .args .words) (c .before .before .before .before .before .pre .1) (c .before .before .before .turn-at .result) (c .before .before .before .turn-at .ensures) (c .before .count2 .given .0 .0) (c .before .count2 .given .1) in omega (arith, p .inside, p .few-words, p .short)
 
--- src/objects.rt:66:83
 scan-group-add-scan-members-2 : (t : ℕ) → scan-group-lts.Need-add-scan-members-2 (
   turn-at-reads.Asked,
   turn-at-reads.Learnt,
@@ -114,7 +110,6 @@ scan-group-add-scan-members-2 : (t : ℕ) → scan-group-lts.Need-add-scan-membe
 ) (scan-group-at t) scan-group.Post
 scan-group-add-scan-members-2 t c = let p = group-members (c .before .before .before .before .before .args .file .now) (c .before .before .before .before .shared-slice-known .given) (c .before .before .before .before .before .args .version) (c .before .before .before .before .before .args .deep) (c .before .before .before .before .before .args .at) (c .before .before .before .before .before .args .rows) (c .before .before .before .before .before .args .words) (c .before .before .before .before .before .pre .1) (c .before .before .before .turn-at .result) (c .before .before .before .turn-at .ensures) (c .before .count2 .given .0 .0) (c .before .count2 .given .1) in omega (arith, p .inside, p .few-words, p .short)
 
--- src/objects.rt:66:17
 scan-group-scan-members-requires : (t : ℕ) → scan-group-lts.Need-scan-members-requires (
   turn-at-reads.Asked,
   turn-at-reads.Learnt,
@@ -125,7 +120,6 @@ scan-group-scan-members-requires : (t : ℕ) → scan-group-lts.Need-scan-member
 ) (scan-group-at t) scan-group.Post
 scan-group-scan-members-requires t c κs = (omega (arith, c .before .before .before .before .before .pre .0), group-members (c .before .before .before .before .before .args .file .now) (c .before .before .before .before .shared-slice-known .given) (c .before .before .before .before .before .args .version) (c .before .before .before .before .before .args .deep) (c .before .before .before .before .before .args .at) (c .before .before .before .before .before .args .rows) (c .before .before .before .before .before .args .words) (c .before .before .before .before .before .pre .1) (c .before .before .before .turn-at .result) (c .before .before .before .turn-at .ensures) (c .before .count2 .given .0 .0) (c .before .count2 .given .1))
 
--- src/objects.rt:68:33
 scan-group-enum-known-passed : (t : ℕ) → scan-group-lts.Need-enum-known-passed (
   turn-at-reads.Asked,
   turn-at-reads.Learnt,
@@ -136,7 +130,6 @@ scan-group-enum-known-passed : (t : ℕ) → scan-group-lts.Need-enum-known-pass
 ) (scan-group-at t) scan-group.Post
 scan-group-enum-known-passed t c = search needs
 
--- src/objects.rt:73:25
 scan-group-enum-known-passed-2 : (t : ℕ) → scan-group-lts.Need-enum-known-passed-2 (
   turn-at-reads.Asked,
   turn-at-reads.Learnt,
@@ -147,7 +140,6 @@ scan-group-enum-known-passed-2 : (t : ℕ) → scan-group-lts.Need-enum-known-pa
 ) (scan-group-at t) scan-group.Post
 scan-group-enum-known-passed-2 t c = search needs
 
--- src/objects.rt:76:24
 scan-group-scan-body-requires : (t : ℕ) → scan-group-lts.Need-scan-body-requires (
   turn-at-reads.Asked,
   turn-at-reads.Learnt,
@@ -158,7 +150,6 @@ scan-group-scan-body-requires : (t : ℕ) → scan-group-lts.Need-scan-body-requ
 ) (scan-group-at t) scan-group.Post
 scan-group-scan-body-requires t c κs = let p = group-tail (c .before .before .before .before .before .before .before .before .before .args .file .now) (c .before .before .before .before .before .before .before .before .shared-slice-known .given) (c .before .before .before .before .before .before .before .before .before .args .version) (c .before .before .before .before .before .before .before .before .before .args .deep) (c .before .before .before .before .before .before .before .before .before .args .at) (c .before .before .before .before .before .before .before .before .before .args .rows) (c .before .before .before .before .before .before .before .before .before .args .words) (c .before .before .before .before .before .before .before .before .before .pre .1) (c .before .before .before .before .before .before .before .turn-at .result) (c .before .before .before .before .before .before .before .turn-at .ensures) (c .before .before .before .before .before .count2 .given .0 .0) (c .before .before .before .before .before .count2 .given .1) (c .before .before .before .scan-members .result) (c .before .before .before .scan-members .ensures) (c .before .passed2 .given .0 .0) (c .before .passed2 .given .0 .1 .0) (c .before .passed2 .given .0 .1 .1 .0) (c .before .passed2 .given .1) in record { short = p .short; inside = p .inside; few = p .few-words }
 
--- src/objects.rt:48:1
 scan-group-returns : (t : ℕ) → scan-group-lts.Need-returns (
   turn-at-reads.Asked,
   turn-at-reads.Learnt,
@@ -169,7 +160,6 @@ scan-group-returns : (t : ℕ) → scan-group-lts.Need-returns (
 ) (scan-group-at t) scan-group.Post
 scan-group-returns t c = group-fault (c .before .before .before .before .before .args .file .now) (c .before .before .before .before .shared-slice-known .given) (c .before .before .before .before .before .args .version) (c .before .before .before .before .before .args .deep) (c .before .before .before .before .before .args .at) (c .before .before .before .before .before .args .rows) (c .before .before .before .before .before .args .words) (c .before .before .before .before .before .pre .1) (c .before .before .before .turn-at .result) (c .before .before .before .turn-at .ensures) (c .before .count .given .0 .0) (c .before .count .given .1)
 
--- src/objects.rt:48:1
 scan-group-returns-2 : (t : ℕ) → scan-group-lts.Need-returns-2 (
   turn-at-reads.Asked,
   turn-at-reads.Learnt,
@@ -180,7 +170,6 @@ scan-group-returns-2 : (t : ℕ) → scan-group-lts.Need-returns-2 (
 ) (scan-group-at t) scan-group.Post
 scan-group-returns-2 t c = group-stop (c .before .before .before .before .before .before .before .before .before .args .file .now) (c .before .before .before .before .before .before .before .before .shared-slice-known .given) (c .before .before .before .before .before .before .before .before .before .args .version) (c .before .before .before .before .before .before .before .before .before .args .deep) (c .before .before .before .before .before .before .before .before .before .args .at) (c .before .before .before .before .before .before .before .before .before .args .rows) (c .before .before .before .before .before .before .before .before .before .args .words) (c .before .before .before .before .before .before .before .before .before .pre .1) (c .before .before .before .before .before .before .before .turn-at .result) (c .before .before .before .before .before .before .before .turn-at .ensures) (c .before .before .before .before .before .count2 .given .0 .0) (c .before .before .before .before .before .count2 .given .1) (c .before .before .before .scan-members .result) (c .before .before .before .scan-members .ensures) (c .before .passed .given .0 .0) (c .before .passed .given .0 .1 .0) (c .before .passed .given .1)
 
--- src/objects.rt:48:1
 scan-group-returns-3 : (t : ℕ) → scan-group-lts.Need-returns-3 (
   turn-at-reads.Asked,
   turn-at-reads.Learnt,
@@ -199,70 +188,60 @@ abbrev scan-members-μ-loop : scan-members-lts.MeasureT-loop
 scan-members-μ-loop file version deep members from above before left₀ at₀ rows₀ words₀ left at rows words =
     left
 
--- src/objects.rt:98:5
 scan-members-loop-holds : (t : ℕ) → scan-members-lts.Need-loop-holds (
   scan-object-below t,
   scan-object.Post,
 ) (scan-members-at t) scan-members.Post scan-members-Inv-loop scan-members-μ-loop
-scan-members-loop-holds t c = members-begin (c .before .args .file .now) (c .before .args .version) (c .before .args .deep) (c .before .args .members) (c .before .args .from) (c .before .args .above) (c .before .args .before) (c .before .pre .1)
+scan-members-loop-holds t c = members-begin (c .before .pre .1)
 
--- src/objects.rt:99:13
 scan-members-scan-object-requires : (t : ℕ) → scan-members-lts.Need-scan-object-requires (
   scan-object-below t,
   scan-object.Post,
 ) (scan-members-at t) scan-members.Post scan-members-Inv-loop scan-members-μ-loop
 scan-members-scan-object-requires t c κs = (omega (arith, c .before .before .before .pre .0), c .before .loop .inv .placed)
 
--- src/objects.rt:101:29
 scan-members-enum-known-passed : (t : ℕ) → scan-members-lts.Need-enum-known-passed (
   scan-object-below t,
   scan-object.Post,
 ) (scan-members-at t) scan-members.Post scan-members-Inv-loop scan-members-μ-loop
 scan-members-enum-known-passed t c = search needs
 
--- src/objects.rt:102:17
 scan-members-returns : (t : ℕ) → scan-members-lts.Need-returns (
   scan-object-below t,
   scan-object.Post,
 ) (scan-members-at t) scan-members.Post scan-members-Inv-loop scan-members-μ-loop
-scan-members-returns t c = members-stop (c .before .before .before .before .before .before .before .args .file .now) (c .before .before .before .before .before .before .before .args .version) (c .before .before .before .before .before .before .before .args .deep) (c .before .before .before .before .before .before .before .args .members) (c .before .before .before .before .before .before .before .args .from) (c .before .before .before .before .before .before .before .args .above) (c .before .before .before .before .before .before .before .args .before) (c .before .before .before .before .before .loop .left) (c .before .before .before .before .before .loop .at) (c .before .before .before .before .before .loop .rows) (c .before .before .before .before .before .loop .words) (c .before .before .before .before .before .loop .inv) (c .before .before .before .before .before .before .shared-slice-known .given) (c .before .before .before .before .loop-test .taken) (c .before .before .before .scan-object .result) (c .before .before .before .scan-object .ensures) (c .before .passed .given .0 .0) (c .before .passed .given .0 .1 .0) (c .before .passed .given .1)
+scan-members-returns t c = members-stop (c .before .before .before .before .before .loop .inv) (c .before .before .before .before .before .before .shared-slice-known .given) (c .before .before .before .before .loop-test .taken) (c .before .before .before .scan-object .ensures) (c .before .passed .given .1)
 
--- src/objects.rt:108:21
 scan-members-enum-known-passed-2 : (t : ℕ) → scan-members-lts.Need-enum-known-passed-2 (
   scan-object-below t,
   scan-object.Post,
 ) (scan-members-at t) scan-members.Post scan-members-Inv-loop scan-members-μ-loop
 scan-members-enum-known-passed-2 t c = search needs
 
--- src/objects.rt:112:24
 scan-members-sub-left : (t : ℕ) → scan-members-lts.Need-sub-left (
   scan-object-below t,
   scan-object.Post,
 ) (scan-members-at t) scan-members.Post scan-members-Inv-loop scan-members-μ-loop
 scan-members-sub-left t c = omega (arith, c .before .before .before .before .loop-test .taken)
 
--- src/objects.rt:98:5
 scan-members-loop-less : (t : ℕ) → scan-members-lts.Need-loop-less (
   scan-object-below t,
   scan-object.Post,
 ) (scan-members-at t) scan-members.Post scan-members-Inv-loop scan-members-μ-loop
 scan-members-loop-less t c = omega (arith, c .before .before .before .before .loop-test .taken)
 
--- src/objects.rt:98:5
 scan-members-loop-again : (t : ℕ) → scan-members-lts.Need-loop-again (
   scan-object-below t,
   scan-object.Post,
 ) (scan-members-at t) scan-members.Post scan-members-Inv-loop scan-members-μ-loop
-scan-members-loop-again t c = members-again (c .before .before .before .before .before .before .before .args .file .now) (c .before .before .before .before .before .before .before .args .version) (c .before .before .before .before .before .before .before .args .deep) (c .before .before .before .before .before .before .before .args .members) (c .before .before .before .before .before .before .before .args .from) (c .before .before .before .before .before .before .before .args .above) (c .before .before .before .before .before .before .before .args .before) (c .before .before .before .before .before .loop .left) (c .before .before .before .before .before .loop .at) (c .before .before .before .before .before .loop .rows) (c .before .before .before .before .before .loop .words) (c .before .before .before .before .before .loop .inv) (c .before .before .before .before .before .before .shared-slice-known .given) (c .before .before .before .before .loop-test .taken) (c .before .before .before .scan-object .result) (c .before .before .before .scan-object .ensures) (c .before .passed2 .given .0 .0) (c .before .passed2 .given .0 .1 .0) (c .before .passed2 .given .0 .1 .1 .0) (c .before .passed2 .given .1)
+scan-members-loop-again t c = members-again (c .before .before .before .before .before .loop .inv) (c .before .before .before .before .before .before .shared-slice-known .given) (c .before .before .before .before .loop-test .taken) (c .before .before .before .scan-object .ensures) (c .before .passed2 .given .1)
 
--- src/objects.rt:82:1
 scan-members-returns-2 : (t : ℕ) → scan-members-lts.Need-returns-2 (
   scan-object-below t,
   scan-object.Post,
 ) (scan-members-at t) scan-members.Post scan-members-Inv-loop scan-members-μ-loop
-scan-members-returns-2 t c = members-end (c .before .before .before .args .file .now) (c .before .before .before .args .version) (c .before .before .before .args .deep) (c .before .before .before .args .members) (c .before .before .before .args .from) (c .before .before .before .args .above) (c .before .before .before .args .before) (c .before .loop .left) (c .before .loop .at) (c .before .loop .rows) (c .before .loop .words) (c .before .loop .inv) (λ h. omega (arith, c .loop-test .left))
+scan-members-returns-2 t c = members-end (c .before .loop .inv) (λ h. omega (arith, c .loop-test .left))
 
--- src/objects.rt:25:9
 scan-object-turn-at-requires : (t : ℕ) → scan-object-lts.Need-turn-at-requires (
   turn-at-reads.Asked,
   turn-at-reads.Learnt,
@@ -275,7 +254,6 @@ scan-object-turn-at-requires : (t : ℕ) → scan-object-lts.Need-turn-at-requir
 ) (scan-object-at t) scan-object.Post
 scan-object-turn-at-requires t c κs = c .before .pre .1 .inside
 
--- src/objects.rt:27:21
 scan-object-enum-known-id : (t : ℕ) → scan-object-lts.Need-enum-known-id (
   turn-at-reads.Asked,
   turn-at-reads.Learnt,
@@ -288,7 +266,6 @@ scan-object-enum-known-id : (t : ℕ) → scan-object-lts.Need-enum-known-id (
 ) (scan-object-at t) scan-object.Post
 scan-object-enum-known-id t c = search needs
 
--- src/objects.rt:31:21
 scan-object-enum-known-id-2 : (t : ℕ) → scan-object-lts.Need-enum-known-id-2 (
   turn-at-reads.Asked,
   turn-at-reads.Learnt,
@@ -301,7 +278,6 @@ scan-object-enum-known-id-2 : (t : ℕ) → scan-object-lts.Need-enum-known-id-2
 ) (scan-object-at t) scan-object.Post
 scan-object-enum-known-id-2 t c = search needs
 
--- src/objects.rt:33:50
 scan-object-sub-scan-group : (t : ℕ) → scan-object-lts.Need-sub-scan-group (
   turn-at-reads.Asked,
   turn-at-reads.Learnt,
@@ -314,7 +290,6 @@ scan-object-sub-scan-group : (t : ℕ) → scan-object-lts.Need-sub-scan-group (
 ) (scan-object-at t) scan-object.Post
 scan-object-sub-scan-group t c = omega (arith, scan-object-deeper (c .before .before .before .before .before .before .args .file .now) (c .before .before .before .before .before .shared-slice-known .given) (c .before .before .before .before .before .before .args .version) (c .before .before .before .before .before .before .args .deep) (c .before .before .before .before .before .before .args .at) (c .before .before .before .before .before .before .args .rows) (c .before .before .before .before .before .before .args .words) (c .before .before .before .before .before .before .pre .1) (c .before .before .before .before .turn-at .result) (c .before .before .before .before .turn-at .ensures) (c .before .before .id2 .given .1 ∙ ap Turn.Value (c .if1 .taken)))
 
--- src/objects.rt:33:60
 scan-object-add-scan-group : (t : ℕ) → scan-object-lts.Need-add-scan-group (
   turn-at-reads.Asked,
   turn-at-reads.Learnt,
@@ -327,7 +302,6 @@ scan-object-add-scan-group : (t : ℕ) → scan-object-lts.Need-add-scan-group (
 ) (scan-object-at t) scan-object.Post
 scan-object-add-scan-group t c = let i = scan-object-id (c .before .before .before .before .before .before .args .file .now) (c .before .before .before .before .before .shared-slice-known .given) (c .before .before .before .before .before .before .args .version) (c .before .before .before .before .before .before .args .deep) (c .before .before .before .before .before .before .args .at) (c .before .before .before .before .before .before .args .rows) (c .before .before .before .before .before .before .args .words) (c .before .before .before .before .before .before .pre .1) (c .before .before .before .before .turn-at .result) (c .before .before .before .before .turn-at .ensures) (c .before .before .id2 .given .0 .0) (c .before .before .id2 .given .1) in omega (arith, i .1 .inside, i .1 .few-rows, i .1 .short)
 
--- src/objects.rt:33:68
 scan-object-add-scan-group-2 : (t : ℕ) → scan-object-lts.Need-add-scan-group-2 (
   turn-at-reads.Asked,
   turn-at-reads.Learnt,
@@ -340,7 +314,6 @@ scan-object-add-scan-group-2 : (t : ℕ) → scan-object-lts.Need-add-scan-group
 ) (scan-object-at t) scan-object.Post
 scan-object-add-scan-group-2 t c = let i = scan-object-id (c .before .before .before .before .before .before .args .file .now) (c .before .before .before .before .before .shared-slice-known .given) (c .before .before .before .before .before .before .args .version) (c .before .before .before .before .before .before .args .deep) (c .before .before .before .before .before .before .args .at) (c .before .before .before .before .before .before .args .rows) (c .before .before .before .before .before .before .args .words) (c .before .before .before .before .before .before .pre .1) (c .before .before .before .before .turn-at .result) (c .before .before .before .before .turn-at .ensures) (c .before .before .id2 .given .0 .0) (c .before .before .id2 .given .1) in omega (arith, i .1 .inside, i .1 .few-rows, i .1 .short)
 
--- src/objects.rt:33:17
 scan-object-scan-group-requires : (t : ℕ) → scan-object-lts.Need-scan-group-requires (
   turn-at-reads.Asked,
   turn-at-reads.Learnt,
@@ -353,7 +326,6 @@ scan-object-scan-group-requires : (t : ℕ) → scan-object-lts.Need-scan-group-
 ) (scan-object-at t) scan-object.Post
 scan-object-scan-group-requires t c κs = (omega (arith, c .before .before .before .before .before .before .pre .0, scan-object-deeper (c .before .before .before .before .before .before .args .file .now) (c .before .before .before .before .before .shared-slice-known .given) (c .before .before .before .before .before .before .args .version) (c .before .before .before .before .before .before .args .deep) (c .before .before .before .before .before .before .args .at) (c .before .before .before .before .before .before .args .rows) (c .before .before .before .before .before .before .args .words) (c .before .before .before .before .before .before .pre .1) (c .before .before .before .before .turn-at .result) (c .before .before .before .before .turn-at .ensures) (c .before .before .id2 .given .1 ∙ ap Turn.Value (c .if1 .taken))), scan-object-id (c .before .before .before .before .before .before .args .file .now) (c .before .before .before .before .before .shared-slice-known .given) (c .before .before .before .before .before .before .args .version) (c .before .before .before .before .before .before .args .deep) (c .before .before .before .before .before .before .args .at) (c .before .before .before .before .before .before .args .rows) (c .before .before .before .before .before .before .args .words) (c .before .before .before .before .before .before .pre .1) (c .before .before .before .before .turn-at .result) (c .before .before .before .before .turn-at .ensures) (c .before .before .id2 .given .0 .0) (c .before .before .id2 .given .1) .1)
 
--- src/objects.rt:33:17
 scan-object-returns : (t : ℕ) → scan-object-lts.Need-returns (
   turn-at-reads.Asked,
   turn-at-reads.Learnt,
@@ -366,7 +338,6 @@ scan-object-returns : (t : ℕ) → scan-object-lts.Need-returns (
 ) (scan-object-at t) scan-object.Post
 scan-object-returns t c = scan-object-group (c .before .before .before .before .before .before .before .args .file .now) (c .before .before .before .before .before .before .shared-slice-known .given) (c .before .before .before .before .before .before .before .args .version) (c .before .before .before .before .before .before .before .args .deep) (c .before .before .before .before .before .before .before .args .at) (c .before .before .before .before .before .before .before .args .rows) (c .before .before .before .before .before .before .before .args .words) (c .before .before .before .before .before .before .before .pre .1) (c .before .before .before .before .before .turn-at .result) (c .before .before .before .before .before .turn-at .ensures) (c .before .before .before .id2 .given .1 ∙ ap Turn.Value (c .before .if1 .taken)) (c .scan-group .result) (c .scan-group .ensures)
 
--- src/objects.rt:38:28
 scan-object-cast-leaf-start : (t : ℕ) → scan-object-lts.Need-cast-leaf-start (
   turn-at-reads.Asked,
   turn-at-reads.Learnt,
@@ -379,7 +350,6 @@ scan-object-cast-leaf-start : (t : ℕ) → scan-object-lts.Need-cast-leaf-start
 ) (scan-object-at t) scan-object.Post
 scan-object-cast-leaf-start t c = omega (arith, scan-object-id (c .before .before .before .before .before .before .args .file .now) (c .before .before .before .before .before .shared-slice-known .given) (c .before .before .before .before .before .before .args .version) (c .before .before .before .before .before .before .args .deep) (c .before .before .before .before .before .before .args .at) (c .before .before .before .before .before .before .args .rows) (c .before .before .before .before .before .before .args .words) (c .before .before .before .before .before .before .pre .1) (c .before .before .before .before .turn-at .result) (c .before .before .before .before .turn-at .ensures) (c .before .before .id2 .given .0 .0) (c .before .before .id2 .given .1) .0)
 
--- src/objects.rt:38:17
 scan-object-leaf-start-requires : (t : ℕ) → scan-object-lts.Need-leaf-start-requires (
   turn-at-reads.Asked,
   turn-at-reads.Learnt,
@@ -392,7 +362,6 @@ scan-object-leaf-start-requires : (t : ℕ) → scan-object-lts.Need-leaf-start-
 ) (scan-object-at t) scan-object.Post
 scan-object-leaf-start-requires t c κs = search needs
 
--- src/objects.rt:39:17
 scan-object-add-scan-body : (t : ℕ) → scan-object-lts.Need-add-scan-body (
   turn-at-reads.Asked,
   turn-at-reads.Learnt,
@@ -405,7 +374,6 @@ scan-object-add-scan-body : (t : ℕ) → scan-object-lts.Need-add-scan-body (
 ) (scan-object-at t) scan-object.Post
 scan-object-add-scan-body t c = let i = scan-object-id (c .before .before .before .before .before .before .before .args .file .now) (c .before .before .before .before .before .before .shared-slice-known .given) (c .before .before .before .before .before .before .before .args .version) (c .before .before .before .before .before .before .before .args .deep) (c .before .before .before .before .before .before .before .args .at) (c .before .before .before .before .before .before .before .args .rows) (c .before .before .before .before .before .before .before .args .words) (c .before .before .before .before .before .before .before .pre .1) (c .before .before .before .before .before .turn-at .result) (c .before .before .before .before .before .turn-at .ensures) (c .before .before .before .id2 .given .0 .0) (c .before .before .before .id2 .given .1) in omega (arith, i .1 .inside, i .1 .few-rows, i .1 .short)
 
--- src/objects.rt:40:17
 scan-object-add-scan-body-2 : (t : ℕ) → scan-object-lts.Need-add-scan-body-2 (
   turn-at-reads.Asked,
   turn-at-reads.Learnt,
@@ -418,7 +386,6 @@ scan-object-add-scan-body-2 : (t : ℕ) → scan-object-lts.Need-add-scan-body-2
 ) (scan-object-at t) scan-object.Post
 scan-object-add-scan-body-2 t c = let i = scan-object-id (c .before .before .before .before .before .before .before .args .file .now) (c .before .before .before .before .before .before .shared-slice-known .given) (c .before .before .before .before .before .before .before .args .version) (c .before .before .before .before .before .before .before .args .deep) (c .before .before .before .before .before .before .before .args .at) (c .before .before .before .before .before .before .before .args .rows) (c .before .before .before .before .before .before .before .args .words) (c .before .before .before .before .before .before .before .pre .1) (c .before .before .before .before .before .turn-at .result) (c .before .before .before .before .before .turn-at .ensures) (c .before .before .before .id2 .given .0 .0) (c .before .before .before .id2 .given .1) in omega (arith, i .1 .inside, i .1 .few-rows, i .1 .short)
 
--- src/objects.rt:35:13
 scan-object-scan-body-requires : (t : ℕ) → scan-object-lts.Need-scan-body-requires (
   turn-at-reads.Asked,
   turn-at-reads.Learnt,
@@ -431,7 +398,6 @@ scan-object-scan-body-requires : (t : ℕ) → scan-object-lts.Need-scan-body-re
 ) (scan-object-at t) scan-object.Post
 scan-object-scan-body-requires t c κs = scan-object-id (c .before .before .before .before .before .before .before .args .file .now) (c .before .before .before .before .before .before .shared-slice-known .given) (c .before .before .before .before .before .before .before .args .version) (c .before .before .before .before .before .before .before .args .deep) (c .before .before .before .before .before .before .before .args .at) (c .before .before .before .before .before .before .before .args .rows) (c .before .before .before .before .before .before .before .args .words) (c .before .before .before .before .before .before .before .pre .1) (c .before .before .before .before .before .turn-at .result) (c .before .before .before .before .before .turn-at .ensures) (c .before .before .before .id2 .given .0 .0) (c .before .before .before .id2 .given .1) .2
 
--- src/objects.rt:14:1
 scan-object-returns-2 : (t : ℕ) → scan-object-lts.Need-returns-2 (
   turn-at-reads.Asked,
   turn-at-reads.Learnt,
@@ -444,7 +410,6 @@ scan-object-returns-2 : (t : ℕ) → scan-object-lts.Need-returns-2 (
 ) (scan-object-at t) scan-object.Post
 scan-object-returns-2 t c = scan-object-fault (c .before .before .before .before .before .args .file .now) (c .before .before .before .before .shared-slice-known .given) (c .before .before .before .before .before .args .version) (c .before .before .before .before .before .args .deep) (c .before .before .before .before .before .args .at) (c .before .before .before .before .before .args .rows) (c .before .before .before .before .before .args .words) (c .before .before .before .before .before .pre .1) (c .before .before .before .turn-at .result) (c .before .before .before .turn-at .ensures) (c .before .id .given .0 .0) (c .before .id .given .1)
 
--- src/objects.rt:14:1
 scan-object-returns-3 : (t : ℕ) → scan-object-lts.Need-returns-3 (
   turn-at-reads.Asked,
   turn-at-reads.Learnt,

@@ -1,3 +1,4 @@
+-- `store::objects::store_object`, `store_group` and `store_members`, which call one another, meet their contracts: the depth left falls at each group.
 use Rattle.store.specs.GroupStoreLaws.{group-inside, group-row, group-members, group-start, group-end, group-size, group-stored}
 use Rattle.store.specs.MemberStoreLaws.{Onward, members-begin, members-end, first-storable, members-again}
 use Rattle.store.specs.LeafStoreLaws.{id-inside, id-char, deeper, group-storable, leaf-storable, leaf-row, leaf-end, leaf-stored}
@@ -67,7 +68,6 @@ store-object-below t =
     (falls 3 store-object-kinds.ps _<_ μ-store-object t)
     store-object.Pre
 
--- src/objects.rt:76:9
 store-group-word-at-requires : (t : ℕ) → store-group-lts.Need-word-at-requires (
   word-at-reads.Asked,
   word-at-reads.Learnt,
@@ -82,7 +82,6 @@ store-group-word-at-requires : (t : ℕ) → store-group-lts.Need-word-at-requir
 ) (store-group-at t) store-group.Post
 store-group-word-at-requires t c κs = group-inside (c .before .before .before .args .file .now) (c .before .before .shared-slice-known .given) (c .before .before .before .args .version) (c .before .before .before .args .deep) (c .before .before .before .args .at) (c .before .before .before .args .row) (c .before .before .before .args .to) (c .before .before .before .args .contents .now) (c .before .before .before .args .bodies .now) (c .before .before .before .pre .1)
 
--- src/objects.rt:81:9
 store-group-cast-store-members : (t : ℕ) → store-group-lts.Need-cast-store-members (
   word-at-reads.Asked,
   word-at-reads.Learnt,
@@ -97,7 +96,6 @@ store-group-cast-store-members : (t : ℕ) → store-group-lts.Need-cast-store-m
 ) (store-group-at t) store-group.Post
 store-group-cast-store-members t c = omega (arith, group-inside (c .before .before .before .before .args .file .now) (c .before .before .before .shared-slice-known .given) (c .before .before .before .before .args .version) (c .before .before .before .before .args .deep) (c .before .before .before .before .args .at) (c .before .before .before .before .args .row) (c .before .before .before .before .args .to) (c .before .before .before .before .args .contents .now) (c .before .before .before .before .args .bodies .now) (c .before .before .before .before .pre .1), group-row (c .before .before .before .before .args .file .now) (c .before .before .before .shared-slice-known .given) (c .before .before .before .before .args .version) (c .before .before .before .before .args .deep) (c .before .before .before .before .args .at) (c .before .before .before .before .args .row) (c .before .before .before .before .args .to) (c .before .before .before .before .args .contents .now) (c .before .before .before .before .args .bodies .now) (c .before .before .before .before .pre .1) .1)
 
--- src/objects.rt:82:9
 store-group-add-store-members : (t : ℕ) → store-group-lts.Need-add-store-members (
   word-at-reads.Asked,
   word-at-reads.Learnt,
@@ -112,7 +110,6 @@ store-group-add-store-members : (t : ℕ) → store-group-lts.Need-add-store-mem
 ) (store-group-at t) store-group.Post
 store-group-add-store-members t c = omega (arith, group-inside (c .before .before .before .before .args .file .now) (c .before .before .before .shared-slice-known .given) (c .before .before .before .before .args .version) (c .before .before .before .before .args .deep) (c .before .before .before .before .args .at) (c .before .before .before .before .args .row) (c .before .before .before .before .args .to) (c .before .before .before .before .args .contents .now) (c .before .before .before .before .args .bodies .now) (c .before .before .before .before .pre .1), group-row (c .before .before .before .before .args .file .now) (c .before .before .before .shared-slice-known .given) (c .before .before .before .before .args .version) (c .before .before .before .before .args .deep) (c .before .before .before .before .args .at) (c .before .before .before .before .args .row) (c .before .before .before .before .args .to) (c .before .before .before .before .args .contents .now) (c .before .before .before .before .args .bodies .now) (c .before .before .before .before .pre .1) .1)
 
--- src/objects.rt:84:9
 store-group-cast-store-members-2 : (t : ℕ) → store-group-lts.Need-cast-store-members-2 (
   word-at-reads.Asked,
   word-at-reads.Learnt,
@@ -127,7 +124,6 @@ store-group-cast-store-members-2 : (t : ℕ) → store-group-lts.Need-cast-store
 ) (store-group-at t) store-group.Post
 store-group-cast-store-members-2 t c = omega (arith, group-inside (c .before .before .before .before .before .args .file .now) (c .before .before .before .before .shared-slice-known .given) (c .before .before .before .before .before .args .version) (c .before .before .before .before .before .args .deep) (c .before .before .before .before .before .args .at) (c .before .before .before .before .before .args .row) (c .before .before .before .before .before .args .to) (c .before .before .before .before .before .args .contents .now) (c .before .before .before .before .before .args .bodies .now) (c .before .before .before .before .before .pre .1), group-row (c .before .before .before .before .before .args .file .now) (c .before .before .before .before .shared-slice-known .given) (c .before .before .before .before .before .args .version) (c .before .before .before .before .before .args .deep) (c .before .before .before .before .before .args .at) (c .before .before .before .before .before .args .row) (c .before .before .before .before .before .args .to) (c .before .before .before .before .before .args .contents .now) (c .before .before .before .before .before .args .bodies .now) (c .before .before .before .before .before .pre .1) .1)
 
--- src/objects.rt:85:9
 store-group-add-store-members-2 : (t : ℕ) → store-group-lts.Need-add-store-members-2 (
   word-at-reads.Asked,
   word-at-reads.Learnt,
@@ -142,7 +138,6 @@ store-group-add-store-members-2 : (t : ℕ) → store-group-lts.Need-add-store-m
 ) (store-group-at t) store-group.Post
 store-group-add-store-members-2 t c = omega (arith, group-inside (c .before .before .before .before .before .args .file .now) (c .before .before .before .before .shared-slice-known .given) (c .before .before .before .before .before .args .version) (c .before .before .before .before .before .args .deep) (c .before .before .before .before .before .args .at) (c .before .before .before .before .before .args .row) (c .before .before .before .before .before .args .to) (c .before .before .before .before .before .args .contents .now) (c .before .before .before .before .before .args .bodies .now) (c .before .before .before .before .before .pre .1), group-row (c .before .before .before .before .before .args .file .now) (c .before .before .before .before .shared-slice-known .given) (c .before .before .before .before .before .args .version) (c .before .before .before .before .before .args .deep) (c .before .before .before .before .before .args .at) (c .before .before .before .before .before .args .row) (c .before .before .before .before .before .args .to) (c .before .before .before .before .before .args .contents .now) (c .before .before .before .before .before .args .bodies .now) (c .before .before .before .before .before .pre .1) .1)
 
--- src/objects.rt:77:9
 store-group-store-members-requires : (t : ℕ) → store-group-lts.Need-store-members-requires (
   word-at-reads.Asked,
   word-at-reads.Learnt,
@@ -157,7 +152,6 @@ store-group-store-members-requires : (t : ℕ) → store-group-lts.Need-store-me
 ) (store-group-at t) store-group.Post
 store-group-store-members-requires t c κs = (omega (arith, c .before .before .before .before .before .before .pre .0), group-members (c .before .before .before .before .before .before .args .file .now) (c .before .before .before .before .before .shared-slice-known .given) (c .before .before .before .before .before .before .args .version) (c .before .before .before .before .before .before .args .deep) (c .before .before .before .before .before .before .args .at) (c .before .before .before .before .before .before .args .row) (c .before .before .before .before .before .before .args .to) (c .before .before .before .before .before .before .args .contents .now) (c .before .before .before .before .before .before .args .bodies .now) (c .before .before .before .before .before .before .pre .1) (c .before .before .word-at .result) (c .before .before .word-at .ensures))
 
--- src/objects.rt:92:5
 store-group-store-word-requires : (t : ℕ) → store-group-lts.Need-store-word-requires (
   word-at-reads.Asked,
   word-at-reads.Learnt,
@@ -172,7 +166,6 @@ store-group-store-word-requires : (t : ℕ) → store-group-lts.Need-store-word-
 ) (store-group-at t) store-group.Post
 store-group-store-word-requires t c κs = group-start (c .before .before .before .before .before .before .before .before .before .before .before .before .args .file .now) (c .before .before .before .before .before .before .before .before .before .before .before .shared-slice-known .given) (c .before .before .before .before .before .before .before .before .before .before .before .before .args .version) (c .before .before .before .before .before .before .before .before .before .before .before .before .args .deep) (c .before .before .before .before .before .before .before .before .before .before .before .before .args .at) (c .before .before .before .before .before .before .before .before .before .before .before .before .args .row) (c .before .before .before .before .before .before .before .before .before .before .before .before .args .to) (c .before .before .before .before .before .before .before .before .before .before .before .before .args .contents .now) (c .before .before .before .before .before .before .before .before .before .before .before .before .args .bodies .now) (c .before .before .before .before .before .before .before .before .before .before .before .before .pre .1) (c .before .before .before .before .before .before .before .before .word-at .result) (c .before .before .before .before .before .before .before .before .word-at .ensures) (c .before .before .before .before .before .store-members .last .1 .1 .1 .1 .1 .0) (c .before .before .before .before .before .store-members .last .1 .1 .1 .1 .1 .1 .1 .1 .0) (c .before .before .before .before .before .store-members .result) (c .before .before .before .before .before .store-members .ensures) .0
 
--- src/objects.rt:93:76
 store-group-add-store-body : (t : ℕ) → store-group-lts.Need-add-store-body (
   word-at-reads.Asked,
   word-at-reads.Learnt,
@@ -187,7 +180,6 @@ store-group-add-store-body : (t : ℕ) → store-group-lts.Need-add-store-body (
 ) (store-group-at t) store-group.Post
 store-group-add-store-body t c = omega (arith, group-start (c .before .before .before .before .before .before .before .before .before .before .before .before .before .before .before .before .args .file .now) (c .before .before .before .before .before .before .before .before .before .before .before .before .before .before .before .shared-slice-known .given) (c .before .before .before .before .before .before .before .before .before .before .before .before .before .before .before .before .args .version) (c .before .before .before .before .before .before .before .before .before .before .before .before .before .before .before .before .args .deep) (c .before .before .before .before .before .before .before .before .before .before .before .before .before .before .before .before .args .at) (c .before .before .before .before .before .before .before .before .before .before .before .before .before .before .before .before .args .row) (c .before .before .before .before .before .before .before .before .before .before .before .before .before .before .before .before .args .to) (c .before .before .before .before .before .before .before .before .before .before .before .before .before .before .before .before .args .contents .now) (c .before .before .before .before .before .before .before .before .before .before .before .before .before .before .before .before .args .bodies .now) (c .before .before .before .before .before .before .before .before .before .before .before .before .before .before .before .before .pre .1) (c .before .before .before .before .before .before .before .before .before .before .before .before .word-at .result) (c .before .before .before .before .before .before .before .before .before .before .before .before .word-at .ensures) (c .before .before .before .before .before .before .before .before .before .store-members .last .1 .1 .1 .1 .1 .0) (c .before .before .before .before .before .before .before .before .before .store-members .last .1 .1 .1 .1 .1 .1 .1 .1 .0) (c .before .before .before .before .before .before .before .before .before .store-members .result) (c .before .before .before .before .before .before .before .before .before .store-members .ensures) .1)
 
--- src/objects.rt:93:9
 store-group-store-body-requires : (t : ℕ) → store-group-lts.Need-store-body-requires (
   word-at-reads.Asked,
   word-at-reads.Learnt,
@@ -202,7 +194,6 @@ store-group-store-body-requires : (t : ℕ) → store-group-lts.Need-store-body-
 ) (store-group-at t) store-group.Post
 store-group-store-body-requires t c κs = group-end (c .before .before .before .before .before .before .before .before .before .before .before .before .before .before .before .before .args .file .now) (c .before .before .before .before .before .before .before .before .before .before .before .before .before .before .before .shared-slice-known .given) (c .before .before .before .before .before .before .before .before .before .before .before .before .before .before .before .before .args .version) (c .before .before .before .before .before .before .before .before .before .before .before .before .before .before .before .before .args .deep) (c .before .before .before .before .before .before .before .before .before .before .before .before .before .before .before .before .args .at) (c .before .before .before .before .before .before .before .before .before .before .before .before .before .before .before .before .args .row) (c .before .before .before .before .before .before .before .before .before .before .before .before .before .before .before .before .args .to) (c .before .before .before .before .before .before .before .before .before .before .before .before .before .before .before .before .args .contents .now) (c .before .before .before .before .before .before .before .before .before .before .before .before .before .before .before .before .args .bodies .now) (c .before .before .before .before .before .before .before .before .before .before .before .before .before .before .before .before .pre .1) (c .before .before .before .before .before .before .before .before .before .before .before .before .word-at .result) (c .before .before .before .before .before .before .before .before .before .before .before .before .word-at .ensures) (c .before .before .before .before .before .before .before .before .before .store-members .last .1 .1 .1 .1 .1 .0) (c .before .before .before .before .before .before .before .before .before .store-members .last .1 .1 .1 .1 .1 .1 .1 .1 .0) (c .before .before .before .before .before .before .before .before .before .store-members .result) (c .before .before .before .before .before .before .before .before .before .store-members .ensures) (c .before .before .before .store-word .last .0) (c .before .before .before .store-word .ensures)
 
--- src/objects.rt:96:41
 store-group-cast-store-row : (t : ℕ) → store-group-lts.Need-cast-store-row (
   word-at-reads.Asked,
   word-at-reads.Learnt,
@@ -217,7 +208,6 @@ store-group-cast-store-row : (t : ℕ) → store-group-lts.Need-cast-store-row (
 ) (store-group-at t) store-group.Post
 store-group-cast-store-row t c = let s = group-size (c .before .before .before .before .before .before .before .before .before .before .before .before .before .before .before .before .before .before .before .before .args .file .now) (c .before .before .before .before .before .before .before .before .before .before .before .before .before .before .before .before .before .before .before .shared-slice-known .given) (c .before .before .before .before .before .before .before .before .before .before .before .before .before .before .before .before .before .before .before .before .args .version) (c .before .before .before .before .before .before .before .before .before .before .before .before .before .before .before .before .before .before .before .before .args .deep) (c .before .before .before .before .before .before .before .before .before .before .before .before .before .before .before .before .before .before .before .before .args .at) (c .before .before .before .before .before .before .before .before .before .before .before .before .before .before .before .before .before .before .before .before .args .row) (c .before .before .before .before .before .before .before .before .before .before .before .before .before .before .before .before .before .before .before .before .args .to) (c .before .before .before .before .before .before .before .before .before .before .before .before .before .before .before .before .before .before .before .before .args .contents .now) (c .before .before .before .before .before .before .before .before .before .before .before .before .before .before .before .before .before .before .before .before .args .bodies .now) (c .before .before .before .before .before .before .before .before .before .before .before .before .before .before .before .before .before .before .before .before .pre .1) (c .before .before .before .before .before .before .before .before .before .before .before .before .before .before .before .before .word-at .result) (c .before .before .before .before .before .before .before .before .before .before .before .before .before .before .before .before .word-at .ensures) (c .before .before .before .before .before .before .before .before .before .before .before .before .before .store-members .last .1 .1 .1 .1 .1 .0) (c .before .before .before .before .before .before .before .before .before .before .before .before .before .store-members .last .1 .1 .1 .1 .1 .1 .1 .1 .0) (c .before .before .before .before .before .before .before .before .before .before .before .before .before .store-members .result) (c .before .before .before .before .before .before .before .before .before .before .before .before .before .store-members .ensures) (c .before .before .before .before .before .before .before .store-word .last .0) (c .before .before .before .before .before .before .before .store-word .ensures) (c .before .before .before .store-body .last .1 .1 .1 .1 .0) (c .before .before .before .store-body .result) (c .before .before .before .store-body .ensures) in omega (arith, s .0, s .1, group-start (c .before .before .before .before .before .before .before .before .before .before .before .before .before .before .before .before .before .before .before .before .args .file .now) (c .before .before .before .before .before .before .before .before .before .before .before .before .before .before .before .before .before .before .before .shared-slice-known .given) (c .before .before .before .before .before .before .before .before .before .before .before .before .before .before .before .before .before .before .before .before .args .version) (c .before .before .before .before .before .before .before .before .before .before .before .before .before .before .before .before .before .before .before .before .args .deep) (c .before .before .before .before .before .before .before .before .before .before .before .before .before .before .before .before .before .before .before .before .args .at) (c .before .before .before .before .before .before .before .before .before .before .before .before .before .before .before .before .before .before .before .before .args .row) (c .before .before .before .before .before .before .before .before .before .before .before .before .before .before .before .before .before .before .before .before .args .to) (c .before .before .before .before .before .before .before .before .before .before .before .before .before .before .before .before .before .before .before .before .args .contents .now) (c .before .before .before .before .before .before .before .before .before .before .before .before .before .before .before .before .before .before .before .before .args .bodies .now) (c .before .before .before .before .before .before .before .before .before .before .before .before .before .before .before .before .before .before .before .before .pre .1) (c .before .before .before .before .before .before .before .before .before .before .before .before .before .before .before .before .word-at .result) (c .before .before .before .before .before .before .before .before .before .before .before .before .before .before .before .before .word-at .ensures) (c .before .before .before .before .before .before .before .before .before .before .before .before .before .store-members .last .1 .1 .1 .1 .1 .0) (c .before .before .before .before .before .before .before .before .before .before .before .before .before .store-members .last .1 .1 .1 .1 .1 .1 .1 .1 .0) (c .before .before .before .before .before .before .before .before .before .before .before .before .before .store-members .result) (c .before .before .before .before .before .before .before .before .before .before .before .before .before .store-members .ensures) .1)
 
--- src/objects.rt:96:56
 store-group-sub-store-row : (t : ℕ) → store-group-lts.Need-sub-store-row (
   word-at-reads.Asked,
   word-at-reads.Learnt,
@@ -232,7 +222,6 @@ store-group-sub-store-row : (t : ℕ) → store-group-lts.Need-sub-store-row (
 ) (store-group-at t) store-group.Post
 store-group-sub-store-row t c = let s = group-size (c .before .before .before .before .before .before .before .before .before .before .before .before .before .before .before .before .before .before .before .before .args .file .now) (c .before .before .before .before .before .before .before .before .before .before .before .before .before .before .before .before .before .before .before .shared-slice-known .given) (c .before .before .before .before .before .before .before .before .before .before .before .before .before .before .before .before .before .before .before .before .args .version) (c .before .before .before .before .before .before .before .before .before .before .before .before .before .before .before .before .before .before .before .before .args .deep) (c .before .before .before .before .before .before .before .before .before .before .before .before .before .before .before .before .before .before .before .before .args .at) (c .before .before .before .before .before .before .before .before .before .before .before .before .before .before .before .before .before .before .before .before .args .row) (c .before .before .before .before .before .before .before .before .before .before .before .before .before .before .before .before .before .before .before .before .args .to) (c .before .before .before .before .before .before .before .before .before .before .before .before .before .before .before .before .before .before .before .before .args .contents .now) (c .before .before .before .before .before .before .before .before .before .before .before .before .before .before .before .before .before .before .before .before .args .bodies .now) (c .before .before .before .before .before .before .before .before .before .before .before .before .before .before .before .before .before .before .before .before .pre .1) (c .before .before .before .before .before .before .before .before .before .before .before .before .before .before .before .before .word-at .result) (c .before .before .before .before .before .before .before .before .before .before .before .before .before .before .before .before .word-at .ensures) (c .before .before .before .before .before .before .before .before .before .before .before .before .before .store-members .last .1 .1 .1 .1 .1 .0) (c .before .before .before .before .before .before .before .before .before .before .before .before .before .store-members .last .1 .1 .1 .1 .1 .1 .1 .1 .0) (c .before .before .before .before .before .before .before .before .before .before .before .before .before .store-members .result) (c .before .before .before .before .before .before .before .before .before .before .before .before .before .store-members .ensures) (c .before .before .before .before .before .before .before .store-word .last .0) (c .before .before .before .before .before .before .before .store-word .ensures) (c .before .before .before .store-body .last .1 .1 .1 .1 .0) (c .before .before .before .store-body .result) (c .before .before .before .store-body .ensures) in omega (arith, s .0, s .1, group-start (c .before .before .before .before .before .before .before .before .before .before .before .before .before .before .before .before .before .before .before .before .args .file .now) (c .before .before .before .before .before .before .before .before .before .before .before .before .before .before .before .before .before .before .before .shared-slice-known .given) (c .before .before .before .before .before .before .before .before .before .before .before .before .before .before .before .before .before .before .before .before .args .version) (c .before .before .before .before .before .before .before .before .before .before .before .before .before .before .before .before .before .before .before .before .args .deep) (c .before .before .before .before .before .before .before .before .before .before .before .before .before .before .before .before .before .before .before .before .args .at) (c .before .before .before .before .before .before .before .before .before .before .before .before .before .before .before .before .before .before .before .before .args .row) (c .before .before .before .before .before .before .before .before .before .before .before .before .before .before .before .before .before .before .before .before .args .to) (c .before .before .before .before .before .before .before .before .before .before .before .before .before .before .before .before .before .before .before .before .args .contents .now) (c .before .before .before .before .before .before .before .before .before .before .before .before .before .before .before .before .before .before .before .before .args .bodies .now) (c .before .before .before .before .before .before .before .before .before .before .before .before .before .before .before .before .before .before .before .before .pre .1) (c .before .before .before .before .before .before .before .before .before .before .before .before .before .before .before .before .word-at .result) (c .before .before .before .before .before .before .before .before .before .before .before .before .before .before .before .before .word-at .ensures) (c .before .before .before .before .before .before .before .before .before .before .before .before .before .store-members .last .1 .1 .1 .1 .1 .0) (c .before .before .before .before .before .before .before .before .before .before .before .before .before .store-members .last .1 .1 .1 .1 .1 .1 .1 .1 .0) (c .before .before .before .before .before .before .before .before .before .before .before .before .before .store-members .result) (c .before .before .before .before .before .before .before .before .before .before .before .before .before .store-members .ensures) .1)
 
--- src/objects.rt:96:55
 store-group-cast-store-row-2 : (t : ℕ) → store-group-lts.Need-cast-store-row-2 (
   word-at-reads.Asked,
   word-at-reads.Learnt,
@@ -247,7 +236,6 @@ store-group-cast-store-row-2 : (t : ℕ) → store-group-lts.Need-cast-store-row
 ) (store-group-at t) store-group.Post
 store-group-cast-store-row-2 t c = let s = group-size (c .before .before .before .before .before .before .before .before .before .before .before .before .before .before .before .before .before .before .before .before .args .file .now) (c .before .before .before .before .before .before .before .before .before .before .before .before .before .before .before .before .before .before .before .shared-slice-known .given) (c .before .before .before .before .before .before .before .before .before .before .before .before .before .before .before .before .before .before .before .before .args .version) (c .before .before .before .before .before .before .before .before .before .before .before .before .before .before .before .before .before .before .before .before .args .deep) (c .before .before .before .before .before .before .before .before .before .before .before .before .before .before .before .before .before .before .before .before .args .at) (c .before .before .before .before .before .before .before .before .before .before .before .before .before .before .before .before .before .before .before .before .args .row) (c .before .before .before .before .before .before .before .before .before .before .before .before .before .before .before .before .before .before .before .before .args .to) (c .before .before .before .before .before .before .before .before .before .before .before .before .before .before .before .before .before .before .before .before .args .contents .now) (c .before .before .before .before .before .before .before .before .before .before .before .before .before .before .before .before .before .before .before .before .args .bodies .now) (c .before .before .before .before .before .before .before .before .before .before .before .before .before .before .before .before .before .before .before .before .pre .1) (c .before .before .before .before .before .before .before .before .before .before .before .before .before .before .before .before .word-at .result) (c .before .before .before .before .before .before .before .before .before .before .before .before .before .before .before .before .word-at .ensures) (c .before .before .before .before .before .before .before .before .before .before .before .before .before .store-members .last .1 .1 .1 .1 .1 .0) (c .before .before .before .before .before .before .before .before .before .before .before .before .before .store-members .last .1 .1 .1 .1 .1 .1 .1 .1 .0) (c .before .before .before .before .before .before .before .before .before .before .before .before .before .store-members .result) (c .before .before .before .before .before .before .before .before .before .before .before .before .before .store-members .ensures) (c .before .before .before .before .before .before .before .store-word .last .0) (c .before .before .before .before .before .before .before .store-word .ensures) (c .before .before .before .store-body .last .1 .1 .1 .1 .0) (c .before .before .before .store-body .result) (c .before .before .before .store-body .ensures) in omega (arith, s .0, s .1, group-start (c .before .before .before .before .before .before .before .before .before .before .before .before .before .before .before .before .before .before .before .before .args .file .now) (c .before .before .before .before .before .before .before .before .before .before .before .before .before .before .before .before .before .before .before .shared-slice-known .given) (c .before .before .before .before .before .before .before .before .before .before .before .before .before .before .before .before .before .before .before .before .args .version) (c .before .before .before .before .before .before .before .before .before .before .before .before .before .before .before .before .before .before .before .before .args .deep) (c .before .before .before .before .before .before .before .before .before .before .before .before .before .before .before .before .before .before .before .before .args .at) (c .before .before .before .before .before .before .before .before .before .before .before .before .before .before .before .before .before .before .before .before .args .row) (c .before .before .before .before .before .before .before .before .before .before .before .before .before .before .before .before .before .before .before .before .args .to) (c .before .before .before .before .before .before .before .before .before .before .before .before .before .before .before .before .before .before .before .before .args .contents .now) (c .before .before .before .before .before .before .before .before .before .before .before .before .before .before .before .before .before .before .before .before .args .bodies .now) (c .before .before .before .before .before .before .before .before .before .before .before .before .before .before .before .before .before .before .before .before .pre .1) (c .before .before .before .before .before .before .before .before .before .before .before .before .before .before .before .before .word-at .result) (c .before .before .before .before .before .before .before .before .before .before .before .before .before .before .before .before .word-at .ensures) (c .before .before .before .before .before .before .before .before .before .before .before .before .before .store-members .last .1 .1 .1 .1 .1 .0) (c .before .before .before .before .before .before .before .before .before .before .before .before .before .store-members .last .1 .1 .1 .1 .1 .1 .1 .1 .0) (c .before .before .before .before .before .before .before .before .before .before .before .before .before .store-members .result) (c .before .before .before .before .before .before .before .before .before .before .before .before .before .store-members .ensures) .1)
 
--- src/objects.rt:96:5
 store-group-store-row-requires : (t : ℕ) → store-group-lts.Need-store-row-requires (
   word-at-reads.Asked,
   word-at-reads.Learnt,
@@ -262,7 +250,6 @@ store-group-store-row-requires : (t : ℕ) → store-group-lts.Need-store-row-re
 ) (store-group-at t) store-group.Post
 store-group-store-row-requires t c κs = omega (arith, group-row (c .before .before .before .before .before .before .before .before .before .before .before .before .before .before .before .before .before .before .before .before .args .file .now) (c .before .before .before .before .before .before .before .before .before .before .before .before .before .before .before .before .before .before .before .shared-slice-known .given) (c .before .before .before .before .before .before .before .before .before .before .before .before .before .before .before .before .before .before .before .before .args .version) (c .before .before .before .before .before .before .before .before .before .before .before .before .before .before .before .before .before .before .before .before .args .deep) (c .before .before .before .before .before .before .before .before .before .before .before .before .before .before .before .before .before .before .before .before .args .at) (c .before .before .before .before .before .before .before .before .before .before .before .before .before .before .before .before .before .before .before .before .args .row) (c .before .before .before .before .before .before .before .before .before .before .before .before .before .before .before .before .before .before .before .before .args .to) (c .before .before .before .before .before .before .before .before .before .before .before .before .before .before .before .before .before .before .before .before .args .contents .now) (c .before .before .before .before .before .before .before .before .before .before .before .before .before .before .before .before .before .before .before .before .args .bodies .now) (c .before .before .before .before .before .before .before .before .before .before .before .before .before .before .before .before .before .before .before .before .pre .1) .0, c .before .before .before .before .before .before .before .before .before .before .before .before .before .store-members .ensures .same-rows)
 
--- src/objects.rt:62:1
 store-group-same-length : (t : ℕ) → store-group-lts.Need-same-length (
   word-at-reads.Asked,
   word-at-reads.Learnt,
@@ -277,7 +264,6 @@ store-group-same-length : (t : ℕ) → store-group-lts.Need-same-length (
 ) (store-group-at t) store-group.Post
 store-group-same-length t c = group-stored (c .before .before .before .before .before .before .before .before .before .before .before .before .before .before .before .before .before .before .before .before .before .before .before .args .file .now) (c .before .before .before .before .before .before .before .before .before .before .before .before .before .before .before .before .before .before .before .before .before .before .shared-slice-known .given) (c .before .before .before .before .before .before .before .before .before .before .before .before .before .before .before .before .before .before .before .before .before .before .before .args .version) (c .before .before .before .before .before .before .before .before .before .before .before .before .before .before .before .before .before .before .before .before .before .before .before .args .deep) (c .before .before .before .before .before .before .before .before .before .before .before .before .before .before .before .before .before .before .before .before .before .before .before .args .at) (c .before .before .before .before .before .before .before .before .before .before .before .before .before .before .before .before .before .before .before .before .before .before .before .args .row) (c .before .before .before .before .before .before .before .before .before .before .before .before .before .before .before .before .before .before .before .before .before .before .before .args .to) (c .before .before .before .before .before .before .before .before .before .before .before .before .before .before .before .before .before .before .before .before .before .before .before .args .contents .now) (c .before .before .before .before .before .before .before .before .before .before .before .before .before .before .before .before .before .before .before .before .before .before .before .args .bodies .now) (c .before .before .before .before .before .before .before .before .before .before .before .before .before .before .before .before .before .before .before .before .before .before .before .pre .1) (c .before .before .before .before .before .before .before .before .before .before .before .before .before .before .before .before .before .before .before .word-at .result) (c .before .before .before .before .before .before .before .before .before .before .before .before .before .before .before .before .before .before .before .word-at .ensures) (c .before .before .before .before .before .before .before .before .before .before .before .before .before .before .before .before .store-members .last .1 .1 .1 .1 .1 .0) (c .before .before .before .before .before .before .before .before .before .before .before .before .before .before .before .before .store-members .last .1 .1 .1 .1 .1 .1 .1 .1 .0) (c .before .before .before .before .before .before .before .before .before .before .before .before .before .before .before .before .store-members .result) (c .before .before .before .before .before .before .before .before .before .before .before .before .before .before .before .before .store-members .ensures) (c .before .before .before .before .before .before .before .before .before .before .store-word .last .0) (c .before .before .before .before .before .before .before .before .before .before .store-word .ensures) (c .before .before .before .before .before .before .store-body .last .1 .1 .1 .1 .0) (c .before .before .before .before .before .before .store-body .result) (c .before .before .before .before .before .before .store-body .ensures) (c .before .before .before .before .before .before .before .before .before .before .before .before .before .before .before .before .before .before .before .before .before .before .before .args .parent) (c .before .before .store-row .last .0) (c .before .before .store-row .ensures) .same-rows
 
--- src/objects.rt:62:1
 store-group-same-length-2 : (t : ℕ) → store-group-lts.Need-same-length-2 (
   word-at-reads.Asked,
   word-at-reads.Learnt,
@@ -292,7 +278,6 @@ store-group-same-length-2 : (t : ℕ) → store-group-lts.Need-same-length-2 (
 ) (store-group-at t) store-group.Post
 store-group-same-length-2 t c = group-stored (c .before .before .before .before .before .before .before .before .before .before .before .before .before .before .before .before .before .before .before .before .before .before .before .args .file .now) (c .before .before .before .before .before .before .before .before .before .before .before .before .before .before .before .before .before .before .before .before .before .before .shared-slice-known .given) (c .before .before .before .before .before .before .before .before .before .before .before .before .before .before .before .before .before .before .before .before .before .before .before .args .version) (c .before .before .before .before .before .before .before .before .before .before .before .before .before .before .before .before .before .before .before .before .before .before .before .args .deep) (c .before .before .before .before .before .before .before .before .before .before .before .before .before .before .before .before .before .before .before .before .before .before .before .args .at) (c .before .before .before .before .before .before .before .before .before .before .before .before .before .before .before .before .before .before .before .before .before .before .before .args .row) (c .before .before .before .before .before .before .before .before .before .before .before .before .before .before .before .before .before .before .before .before .before .before .before .args .to) (c .before .before .before .before .before .before .before .before .before .before .before .before .before .before .before .before .before .before .before .before .before .before .before .args .contents .now) (c .before .before .before .before .before .before .before .before .before .before .before .before .before .before .before .before .before .before .before .before .before .before .before .args .bodies .now) (c .before .before .before .before .before .before .before .before .before .before .before .before .before .before .before .before .before .before .before .before .before .before .before .pre .1) (c .before .before .before .before .before .before .before .before .before .before .before .before .before .before .before .before .before .before .before .word-at .result) (c .before .before .before .before .before .before .before .before .before .before .before .before .before .before .before .before .before .before .before .word-at .ensures) (c .before .before .before .before .before .before .before .before .before .before .before .before .before .before .before .before .store-members .last .1 .1 .1 .1 .1 .0) (c .before .before .before .before .before .before .before .before .before .before .before .before .before .before .before .before .store-members .last .1 .1 .1 .1 .1 .1 .1 .1 .0) (c .before .before .before .before .before .before .before .before .before .before .before .before .before .before .before .before .store-members .result) (c .before .before .before .before .before .before .before .before .before .before .before .before .before .before .before .before .store-members .ensures) (c .before .before .before .before .before .before .before .before .before .before .store-word .last .0) (c .before .before .before .before .before .before .before .before .before .before .store-word .ensures) (c .before .before .before .before .before .before .store-body .last .1 .1 .1 .1 .0) (c .before .before .before .before .before .before .store-body .result) (c .before .before .before .before .before .before .store-body .ensures) (c .before .before .before .before .before .before .before .before .before .before .before .before .before .before .before .before .before .before .before .before .before .before .before .args .parent) (c .before .before .store-row .last .0) (c .before .before .store-row .ensures) .same-words
 
--- src/objects.rt:62:1
 store-group-returns : (t : ℕ) → store-group-lts.Need-returns (
   word-at-reads.Asked,
   word-at-reads.Learnt,
@@ -315,63 +300,54 @@ abbrev store-members-μ-loop : store-members-lts.MeasureT-loop
 store-members-μ-loop file version deep members from contents₀ parent first bodies₀ start left₀ at₀ row₀ to₀ contents bodies left at row to =
     left
 
--- src/objects.rt:123:5
 store-members-loop-holds : (t : ℕ) → store-members-lts.Need-loop-holds (
   store-object-below t,
   store-object.Post,
 ) (store-members-at t) store-members.Post store-members-Inv-loop store-members-μ-loop
-store-members-loop-holds t c = members-begin (c .before .before .before .args .file .now) (c .before .before .before .args .version) (c .before .before .before .args .deep) (c .before .before .before .args .parent) (c .before .before .before .args .members) (c .before .before .before .args .from) (c .before .before .before .args .first) (c .before .before .before .args .start) (c .before .before .before .args .contents .now) (c .before .before .before .args .bodies .now) (c .before .before .before .pre .1)
+store-members-loop-holds t c = members-begin (c .before .before .before .pre .1)
 
--- src/objects.rt:124:13
 store-members-store-object-requires : (t : ℕ) → store-members-lts.Need-store-object-requires (
   store-object-below t,
   store-object.Post,
 ) (store-members-at t) store-members.Post store-members-Inv-loop store-members-μ-loop
-store-members-store-object-requires t c κs = (omega (arith, c .before .before .before .before .before .before .before .pre .0), first-storable (c .before .before .before .before .before .before .before .args .file .now) (c .before .before .before .before .before .before .before .args .version) (c .before .before .before .before .before .before .before .args .deep) (c .before .before .before .before .before .before .before .args .parent) (c .before .before .before .before .before .before .before .args .members) (c .before .before .before .before .before .before .before .args .from) (c .before .before .before .before .before .before .before .args .first) (c .before .before .before .before .before .before .before .args .start) (c .before .before .before .before .before .before .before .args .contents .now) (c .before .before .before .before .before .before .before .args .bodies .now) (c .before .before .before .loop .left) (c .before .before .before .loop .at) (c .before .before .before .loop .row) (c .before .before .before .loop .to) (c .before .before .before .loop .contents) (c .before .before .before .loop .bodies) (c .before .before .before .loop .inv) (c .before .before .before .before .before .before .shared-slice-known .given) (c .before .before .loop-test .taken))
+store-members-store-object-requires t c κs = (omega (arith, c .before .before .before .before .before .before .before .pre .0), first-storable (c .before .before .before .loop .inv) (c .before .before .before .before .before .before .shared-slice-known .given) (c .before .before .loop-test .taken))
 
--- src/objects.rt:125:16
 store-members-sub-left : (t : ℕ) → store-members-lts.Need-sub-left (
   store-object-below t,
   store-object.Post,
 ) (store-members-at t) store-members.Post store-members-Inv-loop store-members-μ-loop
 store-members-sub-left t c = omega (arith, c .before .before .before .before .before .before .before .loop-test .taken)
 
--- src/objects.rt:123:5
 store-members-loop-less : (t : ℕ) → store-members-lts.Need-loop-less (
   store-object-below t,
   store-object.Post,
 ) (store-members-at t) store-members.Post store-members-Inv-loop store-members-μ-loop
 store-members-loop-less t c = omega (arith, c .before .before .before .before .before .before .before .loop-test .taken)
 
--- src/objects.rt:123:5
 store-members-loop-again : (t : ℕ) → store-members-lts.Need-loop-again (
   store-object-below t,
   store-object.Post,
 ) (store-members-at t) store-members.Post store-members-Inv-loop store-members-μ-loop
-store-members-loop-again t c = members-again (c .before .before .before .before .before .before .before .before .before .before .before .before .args .file .now) (c .before .before .before .before .before .before .before .before .before .before .before .before .args .version) (c .before .before .before .before .before .before .before .before .before .before .before .before .args .deep) (c .before .before .before .before .before .before .before .before .before .before .before .before .args .parent) (c .before .before .before .before .before .before .before .before .before .before .before .before .args .members) (c .before .before .before .before .before .before .before .before .before .before .before .before .args .from) (c .before .before .before .before .before .before .before .before .before .before .before .before .args .first) (c .before .before .before .before .before .before .before .before .before .before .before .before .args .start) (c .before .before .before .before .before .before .before .before .before .before .before .before .args .contents .now) (c .before .before .before .before .before .before .before .before .before .before .before .before .args .bodies .now) (c .before .before .before .before .before .before .before .before .loop .left) (c .before .before .before .before .before .before .before .before .loop .at) (c .before .before .before .before .before .before .before .before .loop .row) (c .before .before .before .before .before .before .before .before .loop .to) (c .before .before .before .before .before .before .before .before .loop .contents) (c .before .before .before .before .before .before .before .before .loop .bodies) (c .before .before .before .before .before .before .before .before .loop .inv) (c .before .before .before .before .before .before .before .before .before .before .before .shared-slice-known .given) (c .before .before .before .before .before .before .before .loop-test .taken) (c .before .before .before .before .store-object .last .1 .1 .1 .1 .0) (c .before .before .before .before .store-object .last .1 .1 .1 .1 .1 .1 .1 .0) (c .before .before .before .before .store-object .result) (c .before .before .before .before .store-object .ensures)
+store-members-loop-again t c = members-again (c .before .before .before .before .before .before .before .before .loop .inv) (c .before .before .before .before .before .before .before .before .before .before .before .shared-slice-known .given) (c .before .before .before .before .before .before .before .loop-test .taken) (c .before .before .before .before .store-object .ensures)
 
--- src/objects.rt:104:1
 store-members-same-length : (t : ℕ) → store-members-lts.Need-same-length (
   store-object-below t,
   store-object.Post,
 ) (store-members-at t) store-members.Post store-members-Inv-loop store-members-μ-loop
 store-members-same-length t c = c .before .loop .inv .same-rows
 
--- src/objects.rt:104:1
 store-members-same-length-2 : (t : ℕ) → store-members-lts.Need-same-length-2 (
   store-object-below t,
   store-object.Post,
 ) (store-members-at t) store-members.Post store-members-Inv-loop store-members-μ-loop
 store-members-same-length-2 t c = c .before .loop .inv .same-words
 
--- src/objects.rt:104:1
 store-members-returns : (t : ℕ) → store-members-lts.Need-returns (
   store-object-below t,
   store-object.Post,
 ) (store-members-at t) store-members.Post store-members-Inv-loop store-members-μ-loop
-store-members-returns t c = members-end (c .before .before .before .before .before .args .file .now) (c .before .before .before .before .before .args .version) (c .before .before .before .before .before .args .deep) (c .before .before .before .before .before .args .parent) (c .before .before .before .before .before .args .members) (c .before .before .before .before .before .args .from) (c .before .before .before .before .before .args .first) (c .before .before .before .before .before .args .start) (c .before .before .before .before .before .args .contents .now) (c .before .before .before .before .before .args .bodies .now) (c .before .loop .left) (c .before .loop .at) (c .before .loop .row) (c .before .loop .to) (c .before .loop .contents) (c .before .loop .bodies) (c .before .loop .inv) (λ h. omega (arith, c .loop-test .left))
+store-members-returns t c = members-end (c .before .loop .inv) (λ h. omega (arith, c .loop-test .left))
 
--- src/objects.rt:29:9
 store-object-char-at-requires : (t : ℕ) → store-object-lts.Need-char-at-requires (
   char-at-reads.Asked,
   char-at-reads.Learnt,
@@ -388,7 +364,6 @@ store-object-char-at-requires : (t : ℕ) → store-object-lts.Need-char-at-requ
 ) (store-object-at t) store-object.Post
 store-object-char-at-requires t c κs = id-inside (c .before .before .before .args .file .now) (c .before .before .shared-slice-known .given) (c .before .before .before .args .version) (c .before .before .before .args .deep) (c .before .before .before .args .at) (c .before .before .before .args .row) (c .before .before .before .args .to) (c .before .before .before .args .contents .now) (c .before .before .before .args .bodies .now) (c .before .before .before .pre .1)
 
--- src/objects.rt:34:13
 store-object-sub-store-group : (t : ℕ) → store-object-lts.Need-sub-store-group (
   char-at-reads.Asked,
   char-at-reads.Learnt,
@@ -405,7 +380,6 @@ store-object-sub-store-group : (t : ℕ) → store-object-lts.Need-sub-store-gro
 ) (store-object-at t) store-object.Post
 store-object-sub-store-group t c = omega (arith, deeper (c .before .before .before .before .before .args .file .now) (c .before .before .before .before .shared-slice-known .given) (c .before .before .before .before .before .args .version) (c .before .before .before .before .before .args .deep) (c .before .before .before .before .before .args .at) (c .before .before .before .before .before .args .row) (c .before .before .before .before .before .args .to) (c .before .before .before .before .before .args .contents .now) (c .before .before .before .before .before .args .bodies .now) (c .before .before .before .before .before .pre .1) (c .before .char-at .result) (c .before .char-at .ensures) (c .if1 .taken))
 
--- src/objects.rt:35:13
 store-object-add-store-group : (t : ℕ) → store-object-lts.Need-add-store-group (
   char-at-reads.Asked,
   char-at-reads.Learnt,
@@ -422,7 +396,6 @@ store-object-add-store-group : (t : ℕ) → store-object-lts.Need-add-store-gro
 ) (store-object-at t) store-object.Post
 store-object-add-store-group t c = omega (arith, id-inside (c .before .before .before .before .before .args .file .now) (c .before .before .before .before .shared-slice-known .given) (c .before .before .before .before .before .args .version) (c .before .before .before .before .before .args .deep) (c .before .before .before .before .before .args .at) (c .before .before .before .before .before .args .row) (c .before .before .before .before .before .args .to) (c .before .before .before .before .before .args .contents .now) (c .before .before .before .before .before .args .bodies .now) (c .before .before .before .before .before .pre .1), c .before .before .before .before .before .pre .1 .short)
 
--- src/objects.rt:31:9
 store-object-store-group-requires : (t : ℕ) → store-object-lts.Need-store-group-requires (
   char-at-reads.Asked,
   char-at-reads.Learnt,
@@ -439,7 +412,6 @@ store-object-store-group-requires : (t : ℕ) → store-object-lts.Need-store-gr
 ) (store-object-at t) store-object.Post
 store-object-store-group-requires t c κs = (omega (arith, c .before .before .before .before .before .before .before .pre .0, deeper (c .before .before .before .before .before .before .before .args .file .now) (c .before .before .before .before .before .before .shared-slice-known .given) (c .before .before .before .before .before .before .before .args .version) (c .before .before .before .before .before .before .before .args .deep) (c .before .before .before .before .before .before .before .args .at) (c .before .before .before .before .before .before .before .args .row) (c .before .before .before .before .before .before .before .args .to) (c .before .before .before .before .before .before .before .args .contents .now) (c .before .before .before .before .before .before .before .args .bodies .now) (c .before .before .before .before .before .before .before .pre .1) (c .before .before .before .char-at .result) (c .before .before .before .char-at .ensures) (c .before .before .if1 .taken)), group-storable (c .before .before .before .before .before .before .before .args .file .now) (c .before .before .before .before .before .before .shared-slice-known .given) (c .before .before .before .before .before .before .before .args .version) (c .before .before .before .before .before .before .before .args .deep) (c .before .before .before .before .before .before .before .args .at) (c .before .before .before .before .before .before .before .args .row) (c .before .before .before .before .before .before .before .args .to) (c .before .before .before .before .before .before .before .args .contents .now) (c .before .before .before .before .before .before .before .args .bodies .now) (c .before .before .before .before .before .before .before .pre .1) (c .before .before .before .char-at .result) (c .before .before .before .char-at .ensures) (c .before .before .if1 .taken))
 
--- src/objects.rt:31:9
 store-object-same-length : (t : ℕ) → store-object-lts.Need-same-length (
   char-at-reads.Asked,
   char-at-reads.Learnt,
@@ -456,7 +428,6 @@ store-object-same-length : (t : ℕ) → store-object-lts.Need-same-length (
 ) (store-object-at t) store-object.Post
 store-object-same-length t c = L.group-stored (c .before .before .before .before .before .before .before .before .before .before .before .before .args .file .now) (c .before .before .before .before .before .before .before .before .before .before .before .shared-slice-known .given) (c .before .before .before .before .before .before .before .before .before .before .before .before .args .version) (c .before .before .before .before .before .before .before .before .before .before .before .before .args .deep) (c .before .before .before .before .before .before .before .before .before .before .before .before .args .at) (c .before .before .before .before .before .before .before .before .before .before .before .before .args .row) (c .before .before .before .before .before .before .before .before .before .before .before .before .args .to) (c .before .before .before .before .before .before .before .before .before .before .before .before .args .contents .now) (c .before .before .before .before .before .before .before .before .before .before .before .before .args .bodies .now) (c .before .before .before .before .before .before .before .before .before .before .before .before .pre .1) (c .before .before .before .before .before .before .before .before .char-at .result) (c .before .before .before .before .before .before .before .before .char-at .ensures) (c .before .before .before .before .before .before .before .if1 .taken) (c .before .before .before .before .before .before .before .before .before .before .before .before .args .parent) (c .before .before .before .before .store-group .last .1 .1 .1 .1 .0) (c .before .before .before .before .store-group .last .1 .1 .1 .1 .1 .1 .1 .0) (c .before .before .before .before .store-group .result) (c .before .before .before .before .store-group .ensures) .same-rows
 
--- src/objects.rt:31:9
 store-object-same-length-2 : (t : ℕ) → store-object-lts.Need-same-length-2 (
   char-at-reads.Asked,
   char-at-reads.Learnt,
@@ -473,7 +444,6 @@ store-object-same-length-2 : (t : ℕ) → store-object-lts.Need-same-length-2 (
 ) (store-object-at t) store-object.Post
 store-object-same-length-2 t c = L.group-stored (c .before .before .before .before .before .before .before .before .before .before .before .before .args .file .now) (c .before .before .before .before .before .before .before .before .before .before .before .shared-slice-known .given) (c .before .before .before .before .before .before .before .before .before .before .before .before .args .version) (c .before .before .before .before .before .before .before .before .before .before .before .before .args .deep) (c .before .before .before .before .before .before .before .before .before .before .before .before .args .at) (c .before .before .before .before .before .before .before .before .before .before .before .before .args .row) (c .before .before .before .before .before .before .before .before .before .before .before .before .args .to) (c .before .before .before .before .before .before .before .before .before .before .before .before .args .contents .now) (c .before .before .before .before .before .before .before .before .before .before .before .before .args .bodies .now) (c .before .before .before .before .before .before .before .before .before .before .before .before .pre .1) (c .before .before .before .before .before .before .before .before .char-at .result) (c .before .before .before .before .before .before .before .before .char-at .ensures) (c .before .before .before .before .before .before .before .if1 .taken) (c .before .before .before .before .before .before .before .before .before .before .before .before .args .parent) (c .before .before .before .before .store-group .last .1 .1 .1 .1 .0) (c .before .before .before .before .store-group .last .1 .1 .1 .1 .1 .1 .1 .0) (c .before .before .before .before .store-group .result) (c .before .before .before .before .store-group .ensures) .same-words
 
--- src/objects.rt:31:9
 store-object-returns : (t : ℕ) → store-object-lts.Need-returns (
   char-at-reads.Asked,
   char-at-reads.Learnt,
@@ -490,7 +460,6 @@ store-object-returns : (t : ℕ) → store-object-lts.Need-returns (
 ) (store-object-at t) store-object.Post
 store-object-returns t c = L.group-stored (c .before .before .before .before .before .before .before .before .before .before .before .before .args .file .now) (c .before .before .before .before .before .before .before .before .before .before .before .shared-slice-known .given) (c .before .before .before .before .before .before .before .before .before .before .before .before .args .version) (c .before .before .before .before .before .before .before .before .before .before .before .before .args .deep) (c .before .before .before .before .before .before .before .before .before .before .before .before .args .at) (c .before .before .before .before .before .before .before .before .before .before .before .before .args .row) (c .before .before .before .before .before .before .before .before .before .before .before .before .args .to) (c .before .before .before .before .before .before .before .before .before .before .before .before .args .contents .now) (c .before .before .before .before .before .before .before .before .before .before .before .before .args .bodies .now) (c .before .before .before .before .before .before .before .before .before .before .before .before .pre .1) (c .before .before .before .before .before .before .before .before .char-at .result) (c .before .before .before .before .before .before .before .before .char-at .ensures) (c .before .before .before .before .before .before .before .if1 .taken) (c .before .before .before .before .before .before .before .before .before .before .before .before .args .parent) (c .before .before .before .before .store-group .last .1 .1 .1 .1 .0) (c .before .before .before .before .store-group .last .1 .1 .1 .1 .1 .1 .1 .0) (c .before .before .before .before .store-group .result) (c .before .before .before .before .store-group .ensures)
 
--- src/objects.rt:43:55
 store-object-cast-leaf-start : (t : ℕ) → store-object-lts.Need-cast-leaf-start (
   char-at-reads.Asked,
   char-at-reads.Learnt,
@@ -507,7 +476,6 @@ store-object-cast-leaf-start : (t : ℕ) → store-object-lts.Need-cast-leaf-sta
 ) (store-object-at t) store-object.Post
 store-object-cast-leaf-start t c = omega (arith, id-char (c .before .before .before .before .before .args .file .now) (c .before .before .before .before .shared-slice-known .given) (c .before .before .before .before .before .args .version) (c .before .before .before .before .before .args .deep) (c .before .before .before .before .before .args .at) (c .before .before .before .before .before .args .row) (c .before .before .before .before .before .args .to) (c .before .before .before .before .before .args .contents .now) (c .before .before .before .before .before .args .bodies .now) (c .before .before .before .before .before .pre .1) (c .before .char-at .result) (c .before .char-at .ensures))
 
--- src/objects.rt:43:44
 store-object-leaf-start-requires : (t : ℕ) → store-object-lts.Need-leaf-start-requires (
   char-at-reads.Asked,
   char-at-reads.Learnt,
@@ -524,7 +492,6 @@ store-object-leaf-start-requires : (t : ℕ) → store-object-lts.Need-leaf-star
 ) (store-object-at t) store-object.Post
 store-object-leaf-start-requires t c κs = search needs
 
--- src/objects.rt:43:71
 store-object-add-store-body : (t : ℕ) → store-object-lts.Need-add-store-body (
   char-at-reads.Asked,
   char-at-reads.Learnt,
@@ -541,7 +508,6 @@ store-object-add-store-body : (t : ℕ) → store-object-lts.Need-add-store-body
 ) (store-object-at t) store-object.Post
 store-object-add-store-body t c = omega (arith, id-inside (c .before .before .before .before .before .before .args .file .now) (c .before .before .before .before .before .shared-slice-known .given) (c .before .before .before .before .before .before .args .version) (c .before .before .before .before .before .before .args .deep) (c .before .before .before .before .before .before .args .at) (c .before .before .before .before .before .before .args .row) (c .before .before .before .before .before .before .args .to) (c .before .before .before .before .before .before .args .contents .now) (c .before .before .before .before .before .before .args .bodies .now) (c .before .before .before .before .before .before .pre .1), c .before .before .before .before .before .before .pre .1 .short)
 
--- src/objects.rt:43:9
 store-object-store-body-requires : (t : ℕ) → store-object-lts.Need-store-body-requires (
   char-at-reads.Asked,
   char-at-reads.Learnt,
@@ -558,7 +524,6 @@ store-object-store-body-requires : (t : ℕ) → store-object-lts.Need-store-bod
 ) (store-object-at t) store-object.Post
 store-object-store-body-requires t c κs = rw (c .before .leaf-start .ensures) (leaf-storable (c .before .before .before .before .before .before .before .args .file .now) (c .before .before .before .before .before .before .shared-slice-known .given) (c .before .before .before .before .before .before .before .args .version) (c .before .before .before .before .before .before .before .args .deep) (c .before .before .before .before .before .before .before .args .at) (c .before .before .before .before .before .before .before .args .row) (c .before .before .before .before .before .before .before .args .to) (c .before .before .before .before .before .before .before .args .contents .now) (c .before .before .before .before .before .before .before .args .bodies .now) (c .before .before .before .before .before .before .before .pre .1) (c .before .before .before .char-at .result) (c .before .before .before .char-at .ensures) (c .before .before .if1 .left))
 
--- src/objects.rt:49:9
 store-object-leaf-kind-requires : (t : ℕ) → store-object-lts.Need-leaf-kind-requires (
   char-at-reads.Asked,
   char-at-reads.Learnt,
@@ -575,7 +540,6 @@ store-object-leaf-kind-requires : (t : ℕ) → store-object-lts.Need-leaf-kind-
 ) (store-object-at t) store-object.Post
 store-object-leaf-kind-requires t c κs = search needs
 
--- src/objects.rt:51:9
 store-object-cast-store-row : (t : ℕ) → store-object-lts.Need-cast-store-row (
   char-at-reads.Asked,
   char-at-reads.Learnt,
@@ -592,7 +556,6 @@ store-object-cast-store-row : (t : ℕ) → store-object-lts.Need-cast-store-row
 ) (store-object-at t) store-object.Post
 store-object-cast-store-row t c = let e = leaf-end (c .before .before .before .before .before .before .before .before .before .before .before .before .args .file .now) (c .before .before .before .before .before .before .before .before .before .before .before .shared-slice-known .given) (c .before .before .before .before .before .before .before .before .before .before .before .before .args .version) (c .before .before .before .before .before .before .before .before .before .before .before .before .args .deep) (c .before .before .before .before .before .before .before .before .before .before .before .before .args .at) (c .before .before .before .before .before .before .before .before .before .before .before .before .args .row) (c .before .before .before .before .before .before .before .before .before .before .before .before .args .to) (c .before .before .before .before .before .before .before .before .before .before .before .before .args .contents .now) (c .before .before .before .before .before .before .before .before .before .before .before .before .args .bodies .now) (c .before .before .before .before .before .before .before .before .before .before .before .before .pre .1) (c .before .before .before .before .before .before .before .before .char-at .result) (c .before .before .before .before .before .before .before .before .char-at .ensures) (c .before .before .before .before .before .before .before .if1 .left) (c .before .before .before .before .store-body .last .1 .1 .1 .1 .0) (c .before .before .before .before .store-body .result) (rw (c .before .before .before .before .before .before .leaf-start .ensures) at (c .before .before .before .before .store-body .ensures)) in omega (arith, e .0, e .1)
 
--- src/objects.rt:52:10
 store-object-sub-store-row : (t : ℕ) → store-object-lts.Need-sub-store-row (
   char-at-reads.Asked,
   char-at-reads.Learnt,
@@ -609,7 +572,6 @@ store-object-sub-store-row : (t : ℕ) → store-object-lts.Need-sub-store-row (
 ) (store-object-at t) store-object.Post
 store-object-sub-store-row t c = let e = leaf-end (c .before .before .before .before .before .before .before .before .before .before .before .before .args .file .now) (c .before .before .before .before .before .before .before .before .before .before .before .shared-slice-known .given) (c .before .before .before .before .before .before .before .before .before .before .before .before .args .version) (c .before .before .before .before .before .before .before .before .before .before .before .before .args .deep) (c .before .before .before .before .before .before .before .before .before .before .before .before .args .at) (c .before .before .before .before .before .before .before .before .before .before .before .before .args .row) (c .before .before .before .before .before .before .before .before .before .before .before .before .args .to) (c .before .before .before .before .before .before .before .before .before .before .before .before .args .contents .now) (c .before .before .before .before .before .before .before .before .before .before .before .before .args .bodies .now) (c .before .before .before .before .before .before .before .before .before .before .before .before .pre .1) (c .before .before .before .before .before .before .before .before .char-at .result) (c .before .before .before .before .before .before .before .before .char-at .ensures) (c .before .before .before .before .before .before .before .if1 .left) (c .before .before .before .before .store-body .last .1 .1 .1 .1 .0) (c .before .before .before .before .store-body .result) (rw (c .before .before .before .before .before .before .leaf-start .ensures) at (c .before .before .before .before .store-body .ensures)) in omega (arith, e .0, e .1)
 
--- src/objects.rt:52:9
 store-object-cast-store-row-2 : (t : ℕ) → store-object-lts.Need-cast-store-row-2 (
   char-at-reads.Asked,
   char-at-reads.Learnt,
@@ -626,7 +588,6 @@ store-object-cast-store-row-2 : (t : ℕ) → store-object-lts.Need-cast-store-r
 ) (store-object-at t) store-object.Post
 store-object-cast-store-row-2 t c = let e = leaf-end (c .before .before .before .before .before .before .before .before .before .before .before .before .args .file .now) (c .before .before .before .before .before .before .before .before .before .before .before .shared-slice-known .given) (c .before .before .before .before .before .before .before .before .before .before .before .before .args .version) (c .before .before .before .before .before .before .before .before .before .before .before .before .args .deep) (c .before .before .before .before .before .before .before .before .before .before .before .before .args .at) (c .before .before .before .before .before .before .before .before .before .before .before .before .args .row) (c .before .before .before .before .before .before .before .before .before .before .before .before .args .to) (c .before .before .before .before .before .before .before .before .before .before .before .before .args .contents .now) (c .before .before .before .before .before .before .before .before .before .before .before .before .args .bodies .now) (c .before .before .before .before .before .before .before .before .before .before .before .before .pre .1) (c .before .before .before .before .before .before .before .before .char-at .result) (c .before .before .before .before .before .before .before .before .char-at .ensures) (c .before .before .before .before .before .before .before .if1 .left) (c .before .before .before .before .store-body .last .1 .1 .1 .1 .0) (c .before .before .before .before .store-body .result) (rw (c .before .before .before .before .before .before .leaf-start .ensures) at (c .before .before .before .before .store-body .ensures)) in omega (arith, e .0, e .1)
 
--- src/objects.rt:46:5
 store-object-store-row-requires : (t : ℕ) → store-object-lts.Need-store-row-requires (
   char-at-reads.Asked,
   char-at-reads.Learnt,
@@ -643,7 +604,6 @@ store-object-store-row-requires : (t : ℕ) → store-object-lts.Need-store-row-
 ) (store-object-at t) store-object.Post
 store-object-store-row-requires t c κs = leaf-row (c .before .before .before .before .before .before .before .before .before .before .before .before .args .file .now) (c .before .before .before .before .before .before .before .before .before .before .before .shared-slice-known .given) (c .before .before .before .before .before .before .before .before .before .before .before .before .args .version) (c .before .before .before .before .before .before .before .before .before .before .before .before .args .deep) (c .before .before .before .before .before .before .before .before .before .before .before .before .args .at) (c .before .before .before .before .before .before .before .before .before .before .before .before .args .row) (c .before .before .before .before .before .before .before .before .before .before .before .before .args .to) (c .before .before .before .before .before .before .before .before .before .before .before .before .args .contents .now) (c .before .before .before .before .before .before .before .before .before .before .before .before .args .bodies .now) (c .before .before .before .before .before .before .before .before .before .before .before .before .pre .1) (c .before .before .before .before .before .before .before .before .char-at .result) (c .before .before .before .before .before .before .before .before .char-at .ensures) (c .before .before .before .before .before .before .before .if1 .left) .0
 
--- src/objects.rt:56:14
 store-object-add-t23 : (t : ℕ) → store-object-lts.Need-add-t23 (
   char-at-reads.Asked,
   char-at-reads.Learnt,
@@ -660,7 +620,6 @@ store-object-add-t23 : (t : ℕ) → store-object-lts.Need-add-t23 (
 ) (store-object-at t) store-object.Post
 store-object-add-t23 t c = omega (arith, leaf-row (c .before .before .before .before .before .before .before .before .before .before .before .before .before .before .before .args .file .now) (c .before .before .before .before .before .before .before .before .before .before .before .before .before .before .shared-slice-known .given) (c .before .before .before .before .before .before .before .before .before .before .before .before .before .before .before .args .version) (c .before .before .before .before .before .before .before .before .before .before .before .before .before .before .before .args .deep) (c .before .before .before .before .before .before .before .before .before .before .before .before .before .before .before .args .at) (c .before .before .before .before .before .before .before .before .before .before .before .before .before .before .before .args .row) (c .before .before .before .before .before .before .before .before .before .before .before .before .before .before .before .args .to) (c .before .before .before .before .before .before .before .before .before .before .before .before .before .before .before .args .contents .now) (c .before .before .before .before .before .before .before .before .before .before .before .before .before .before .before .args .bodies .now) (c .before .before .before .before .before .before .before .before .before .before .before .before .before .before .before .pre .1) (c .before .before .before .before .before .before .before .before .before .before .before .char-at .result) (c .before .before .before .before .before .before .before .before .before .before .before .char-at .ensures) (c .before .before .before .before .before .before .before .before .before .before .if1 .left) .1)
 
--- src/objects.rt:15:1
 store-object-same-length-3 : (t : ℕ) → store-object-lts.Need-same-length-3 (
   char-at-reads.Asked,
   char-at-reads.Learnt,
@@ -677,7 +636,6 @@ store-object-same-length-3 : (t : ℕ) → store-object-lts.Need-same-length-3 (
 ) (store-object-at t) store-object.Post
 store-object-same-length-3 t c = leaf-stored (c .before .before .before .before .before .before .before .before .before .before .before .before .before .before .before .args .file .now) (c .before .before .before .before .before .before .before .before .before .before .before .before .before .before .shared-slice-known .given) (c .before .before .before .before .before .before .before .before .before .before .before .before .before .before .before .args .version) (c .before .before .before .before .before .before .before .before .before .before .before .before .before .before .before .args .deep) (c .before .before .before .before .before .before .before .before .before .before .before .before .before .before .before .args .at) (c .before .before .before .before .before .before .before .before .before .before .before .before .before .before .before .args .row) (c .before .before .before .before .before .before .before .before .before .before .before .before .before .before .before .args .to) (c .before .before .before .before .before .before .before .before .before .before .before .before .before .before .before .args .contents .now) (c .before .before .before .before .before .before .before .before .before .before .before .before .before .before .before .args .bodies .now) (c .before .before .before .before .before .before .before .before .before .before .before .before .before .before .before .pre .1) (c .before .before .before .before .before .before .before .before .before .before .before .char-at .result) (c .before .before .before .before .before .before .before .before .before .before .before .char-at .ensures) (c .before .before .before .before .before .before .before .before .before .before .if1 .left) (c .before .before .before .before .before .before .before .store-body .last .1 .1 .1 .1 .0) (c .before .before .before .before .before .before .before .store-body .result) (rw (c .before .before .before .before .before .before .before .before .before .leaf-start .ensures) at (c .before .before .before .before .before .before .before .store-body .ensures)) (c .before .before .before .before .before .before .before .before .before .before .before .before .before .before .before .args .parent) (c .before .before .before .leaf-kind .result) (c .before .before .store-row .last .0) (c .before .before .before .leaf-kind .ensures) (c .before .before .store-row .ensures) .same-rows
 
--- src/objects.rt:15:1
 store-object-same-length-4 : (t : ℕ) → store-object-lts.Need-same-length-4 (
   char-at-reads.Asked,
   char-at-reads.Learnt,
@@ -694,7 +652,6 @@ store-object-same-length-4 : (t : ℕ) → store-object-lts.Need-same-length-4 (
 ) (store-object-at t) store-object.Post
 store-object-same-length-4 t c = leaf-stored (c .before .before .before .before .before .before .before .before .before .before .before .before .before .before .before .args .file .now) (c .before .before .before .before .before .before .before .before .before .before .before .before .before .before .shared-slice-known .given) (c .before .before .before .before .before .before .before .before .before .before .before .before .before .before .before .args .version) (c .before .before .before .before .before .before .before .before .before .before .before .before .before .before .before .args .deep) (c .before .before .before .before .before .before .before .before .before .before .before .before .before .before .before .args .at) (c .before .before .before .before .before .before .before .before .before .before .before .before .before .before .before .args .row) (c .before .before .before .before .before .before .before .before .before .before .before .before .before .before .before .args .to) (c .before .before .before .before .before .before .before .before .before .before .before .before .before .before .before .args .contents .now) (c .before .before .before .before .before .before .before .before .before .before .before .before .before .before .before .args .bodies .now) (c .before .before .before .before .before .before .before .before .before .before .before .before .before .before .before .pre .1) (c .before .before .before .before .before .before .before .before .before .before .before .char-at .result) (c .before .before .before .before .before .before .before .before .before .before .before .char-at .ensures) (c .before .before .before .before .before .before .before .before .before .before .if1 .left) (c .before .before .before .before .before .before .before .store-body .last .1 .1 .1 .1 .0) (c .before .before .before .before .before .before .before .store-body .result) (rw (c .before .before .before .before .before .before .before .before .before .leaf-start .ensures) at (c .before .before .before .before .before .before .before .store-body .ensures)) (c .before .before .before .before .before .before .before .before .before .before .before .before .before .before .before .args .parent) (c .before .before .before .leaf-kind .result) (c .before .before .store-row .last .0) (c .before .before .before .leaf-kind .ensures) (c .before .before .store-row .ensures) .same-words
 
--- src/objects.rt:15:1
 store-object-returns-2 : (t : ℕ) → store-object-lts.Need-returns-2 (
   char-at-reads.Asked,
   char-at-reads.Learnt,

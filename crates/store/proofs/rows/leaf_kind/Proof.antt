@@ -1,4 +1,4 @@
--- `store::rows::leaf_kind` meets its contract, arm by arm.
+-- `store::rows::leaf_kind` meets its contract.
 use borrow.Author.Needs.{needs}
 use Rattle.store.specs.Tests.{tests}
 use Rattle.store.proofs.rows.leaf_kind.Statement.{statement}
@@ -8,6 +8,60 @@ pub leaf-kind-spec : {M : Type 1} → statement M
 leaf-kind-spec =
     tie.close
     (tie.spec
-    (λ c. let h0 = c .if1 .taken in simp (h0, tests))
-    (λ c. let h0 = c .if2 .taken in let h1 = c .before .if1 .left in simp (h0, h1, tests))
-    (λ c. let h0 = c .if2 .left in let h1 = c .before .if1 .left in simp (h0, h1, tests)))
+    (λ
+    c.
+    let
+    h0
+    =
+    c
+    .if1
+    .taken
+    in
+    simp (
+      h0,
+      tests,
+    ))
+    (λ
+    c.
+    let
+    h0
+    =
+    c
+    .if2
+    .taken
+    in
+    let
+    h1
+    =
+    c
+    .before
+    .if1
+    .left
+    in
+    simp (
+      h0,
+      h1,
+      tests,
+    ))
+    (λ
+    c.
+    let
+    h0
+    =
+    c
+    .if2
+    .left
+    in
+    let
+    h1
+    =
+    c
+    .before
+    .if1
+    .left
+    in
+    simp (
+      h0,
+      h1,
+      tests,
+    )))

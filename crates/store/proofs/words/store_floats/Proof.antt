@@ -1,11 +1,8 @@
-use Rattle.store.specs.RunStoreLaws.{Storing, storing-begins, storing-again, storing-ends}
+-- `store::words::store_floats` meets its contract.
 use native.Mathlib.Omega.{arith}
+use Rattle.store.specs.RunStoreLaws.{Storing, storing-begins, storing-again, storing-ends}
 use Rattle.store.proofs.words.store_floats.Statement.{statement}
 use Rattle.store.proofs.words.store_floats.Tie as tie
-use Rattle.store.proofs.words.store_floats.Reads as reads
-use Rattle.store.proofs.words.store_floats.Lts as lts
-use Rattle.format.proofs.decode.word_at.Reads as word-at-reads
-use Rattle.store.proofs.words.store_word.Reads as store-word-reads
 
 abbrev Inv-loop : tie.InvT-loop
 Inv-loop file from count words₀ to at₀ place₀ left₀ words at place left = Storing file words₀ from to 4 1 count at place left words
@@ -13,59 +10,19 @@ Inv-loop file from count words₀ to at₀ place₀ left₀ words at place left 
 abbrev μ-loop : tie.MeasureT-loop
 μ-loop file from count words₀ to at₀ place₀ left₀ words at place left = left
 
--- src/words.rt:54:5
-loop-holds : tie.Need-loop-holds Inv-loop μ-loop
-loop-holds c = storing-begins (c .before .before .args .file .now) (c .before .before .args .words .now) (c .before .before .args .from) (c .before .before .args .to) 4 1 (c .before .before .args .count) (c .before .before .pre)
-
--- src/words.rt:55:34
-word-at-requires : tie.Need-word-at-requires Inv-loop μ-loop
-word-at-requires c κs = omega (arith, c .before .before .loop .inv .rest .inside, c .before .loop-test .taken)
-
--- src/words.rt:55:9
-store-word-requires : tie.Need-store-word-requires Inv-loop μ-loop
-store-word-requires c κs = omega (arith, c .before .before .before .loop .inv .rest .fits, c .before .before .loop-test .taken)
-
--- src/words.rt:56:14
-add-at : tie.Need-add-at Inv-loop μ-loop
-add-at c = omega (arith, c .before .before .before .before .before .before .loop .inv .rest .inside, c .before .before .before .before .before .before .loop .inv .rest .fits, c .before .before .before .before .before .loop-test .taken)
-
--- src/words.rt:57:17
-add-place : tie.Need-add-place Inv-loop μ-loop
-add-place c = omega (arith, c .before .before .before .before .before .before .loop .inv .rest .inside, c .before .before .before .before .before .before .loop .inv .rest .fits, c .before .before .before .before .before .loop-test .taken)
-
--- src/words.rt:58:16
-sub-left : tie.Need-sub-left Inv-loop μ-loop
-sub-left c = omega (arith, c .before .before .before .before .before .loop-test .taken)
-
--- src/words.rt:54:5
-loop-less : tie.Need-loop-less Inv-loop μ-loop
-loop-less c = omega (arith, c .before .before .before .before .before .loop-test .taken)
-
--- src/words.rt:54:5
-loop-again : tie.Need-loop-again Inv-loop μ-loop
-loop-again c = storing-again (c .before .before .before .before .before .before .before .before .before .args .file .now) (c .before .before .before .before .before .before .before .before .before .args .words .now) (c .before .before .before .before .before .before .before .before .before .args .from) (c .before .before .before .before .before .before .before .before .before .args .to) 4 1 (c .before .before .before .before .before .before .before .before .before .args .count) (c .before .before .before .before .before .before .loop .at) (c .before .before .before .before .before .before .loop .place) (c .before .before .before .before .before .before .loop .left) (c .before .before .before .before .before .before .loop .words) (c .before .before .before .before .before .before .loop .inv) (c .before .before .before .before .before .loop-test .taken) (c .before .before .store-word .last .0) (rw (c .before .before .before .word-at .ensures) at (c .before .before .store-word .ensures))
-
--- src/words.rt:47:1
-same-length : tie.Need-same-length Inv-loop μ-loop
-same-length c = c .before .loop .inv .same-length
-
--- src/words.rt:47:1
-returns : tie.Need-returns Inv-loop μ-loop
-returns c = storing-ends (c .before .before .before .before .args .file .now) (c .before .before .before .before .args .words .now) (c .before .before .before .before .args .from) (c .before .before .before .before .args .to) 4 1 (c .before .before .before .before .args .count) (c .before .loop .at) (c .before .loop .place) (c .before .loop .left) (c .before .loop .words) (c .before .loop .inv) (λ h. omega (arith, c .loop-test .left))
-
 pub store-floats-spec : {M : Type 1} → statement M
 store-floats-spec =
     tie.close
     (tie.spec
     Inv-loop
     μ-loop
-    loop-holds
-    word-at-requires
-    store-word-requires
-    add-at
-    add-place
-    sub-left
-    loop-less
-    loop-again
-    same-length
-    returns)
+    (λ c. storing-begins (c .before .before .pre))
+    (λ c κs. omega (arith, c .before .before .loop .inv .rest .inside, c .before .loop-test .taken))
+    (λ c κs. omega (arith, c .before .before .before .loop .inv .rest .fits, c .before .before .loop-test .taken))
+    (λ c. omega (arith, c .before .before .before .before .before .before .loop .inv .rest .inside, c .before .before .before .before .before .before .loop .inv .rest .fits, c .before .before .before .before .before .loop-test .taken))
+    (λ c. omega (arith, c .before .before .before .before .before .before .loop .inv .rest .inside, c .before .before .before .before .before .before .loop .inv .rest .fits, c .before .before .before .before .before .loop-test .taken))
+    (λ c. omega (arith, c .before .before .before .before .before .loop-test .taken))
+    (λ c. omega (arith, c .before .before .before .before .before .loop-test .taken))
+    (λ c. storing-again (c .before .before .before .before .before .before .loop .inv) (c .before .before .before .before .before .loop-test .taken) (rw (c .before .before .before .word-at .ensures) at (c .before .before .store-word .ensures)))
+    (λ c. c .before .loop .inv .same-length)
+    (λ c. storing-ends (c .before .loop .inv) (λ h. omega (arith, c .loop-test .left))))
