@@ -4,4 +4,5 @@ pub mod Kinds
 pub mod SignedLaws
 pub mod Turn
 pub mod TurnLaws
+pub mod WordLaws
 pub mod KindLaws

@@ -1,4 +1,4 @@
--- One field, read and judged at a place of a file: what the code's answer says.
+-- One field, read and judged at a place of some units, a file's bytes or a table's words: what the code's answer says.
 use mathlib.Core.Path.{_≡_}
 use mathlib.Core.Bool.{Bool, true, false, _||_}
 use Prim.Native.Nat.{ℕ, _+_, _<_, _≤_}
@@ -8,7 +8,7 @@ use lib.ListN.{length, take, drop}
 use Rattle.format.specs.Digits.{number}
 use Rattle.format.specs.Kind as K
 use Rattle.format.specs.Codec.{Outcome, found, refused}
-use Rattle.drawing.specs.Codecs.{bytes}
+use Rattle.format.specs.FixedCodec.{Fixed, fixed}
 use Rattle.fields.specs.declared.turn.Turn.{Turn}
 use Rattle.fields.specs.declared.turn.Turn.the-variants.{Value, Fault}
 
@@ -28,24 +28,24 @@ isFlag (K.stringChar last) = false
 isFlag (K.chars n) = false
 
 -- What the answer says that reading from the place comes to.
-abbrev pub turned : List ℕ → ℕ → K.Kind → Turn → Outcome ℕ
-turned bs at k (Value v) = found v (drop (at + K.size (k .shape)) bs)
-turned bs at k (Fault n) = refused n (drop at bs)
+abbrev pub turned : Fixed → List ℕ → ℕ → K.Kind → Turn → Outcome ℕ
+turned F us at k (Value v) = found v (drop (at + F .width (k .shape)) us)
+turned F us at k (Fault n) = refused n (drop at us)
 
 -- The field is there, with an allowed value.
-pub record Stands (bs : List ℕ) (at : ℕ) (k : K.Kind) (v : ℕ) : Type 0 where
-  pub inside : at + K.size (k .shape) ≤ length bs
-  pub is : v ≡ number 256 (take (K.size (k .shape)) (drop at bs))
+pub record Stands (F : Fixed) (us : List ℕ) (at : ℕ) (k : K.Kind) (v : ℕ) : Type 0 where
+  pub inside : at + F .width (k .shape) ≤ length us
+  pub is : v ≡ number (F .base) (take (F .width (k .shape)) (drop at us))
   pub allowed : K.Allowed k v
 
 pub record Numbered (n : ℕ) : Type 0 where
   pub positive : 0 < n
   pub small : n < 32
 
-abbrev pub Beside : List ℕ → ℕ → K.Kind → Turn → Type 0
-Beside bs at k (Value v) = Stands bs at k v
-Beside bs at k (Fault n) = Numbered n
+abbrev pub Beside : Fixed → List ℕ → ℕ → K.Kind → Turn → Type 0
+Beside F us at k (Value v) = Stands F us at k v
+Beside F us at k (Fault n) = Numbered n
 
-pub record Turned (bs : List ℕ) (at : ℕ) (k : K.Kind) (t : Turn) : Type 0 where
-  pub reads : bytes .read k (drop at bs) ≡ turned bs at k t
-  pub beside : Beside bs at k t
+pub record Turned (F : Fixed) (us : List ℕ) (at : ℕ) (k : K.Kind) (t : Turn) : Type 0 where
+  pub reads : fixed F .read k (drop at us) ≡ turned F us at k t
+  pub beside : Beside F us at k t

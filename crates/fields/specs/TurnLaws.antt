@@ -11,11 +11,10 @@ use lib.ListN.{length, take, drop, length-drop, take-append-drop}
 use lib.Seq.{drop-drop, length-take-le}
 use Rattle.format.specs.Digits.{number}
 use Rattle.format.specs.Kind as K
-use Rattle.format.specs.FixedCodec.{fault, judged, splitAt, conclude, verdict}
+use Rattle.format.specs.FixedCodec.{fault, judged, splitAt, conclude, verdict, fixed, literal}
 use Rattle.format.specs.FixedCodecLaws.{splitAt-append, splitAt-short}
-use Rattle.drawing.specs.Codecs.{byteFields, bytes}
 use Rattle.fields.specs.declared.turn.Turn.the-variants.{Value, Fault}
-use Rattle.fields.specs.Turn.{isSize, isFlag, Turned}
+use Rattle.fields.specs.Turn.{isSize, isFlag, Numbered, Turned}
 
 pub size-eight : (n : ℕ) → isSize n ≡ true → (n ≡ 1 → ⊥) → (n ≡ 2 → ⊥) → (n ≡ 4 → ⊥) → (n ≡ 6 → ⊥) → n ≡ 8
 size-eight n e one two four six = eqb-true n 8 (simp ne-eqb at e)
@@ -47,29 +46,31 @@ judged-fault : (v n : ℕ) → (n ≡ 0 → ⊥) → judged v n ≡ fault n
 judged-fault v zero h = absurd (h refl)
 judged-fault v (suc n) h = refl
 
-module _ (bs : List ℕ) (at : ℕ) (k : K.Kind) where
-  pub turn-cut : length bs - at < K.size (k .shape) → Turned bs at k (Fault 2)
-  turn-cut h =
-      let short : length (drop at bs) < K.size (k .shape) = rw length-drop h in
-      record { reads = rw (splitAt-short (drop at bs) (K.size (k .shape)) short); beside = record { positive = omega arith; small = omega arith } }
+-- So it is in any codec in which a number stands for itself.
+module _ (base : ℕ) (width : K.Shape → ℕ) (missing meaningless : ℕ) (us : List ℕ) (at : ℕ) (k : K.Kind) where
+  pub turn-cut : length us - at < width (k .shape) → Numbered missing → Turned (literal base width missing meaningless) us at k (Fault missing)
+  turn-cut h numbered =
+      let short : length (drop at us) < width (k .shape) = rw length-drop h in
+      record { reads = rw (splitAt-short (drop at us) (width (k .shape)) short); beside = numbered }
 
-  module _ (v : ℕ) (inside : at + K.size (k .shape) ≤ length bs) (is : v ≡ number 256 (take (K.size (k .shape)) (drop at bs))) where
-    whole : bytes .read k (drop at bs) ≡ conclude (verdict byteFields k (cond (ltb v (K.values (k .shape))) (some v) none)) (drop at bs) (drop (at + K.size (k .shape)) bs)
+  module _ (v : ℕ) (inside : at + width (k .shape) ≤ length us) (is : v ≡ number base (take (width (k .shape)) (drop at us))) where
+    whole : fixed (literal base width missing meaningless) .read k (drop at us)
+        ≡ conclude (verdict (literal base width missing meaningless) k (cond (ltb v (K.values (k .shape))) (some v) none)) (drop at us) (drop (at + width (k .shape)) us)
     whole =
-        let n = K.size (k .shape) in
-        let us = drop at bs in
-        let room : n ≤ length us = rw length-drop (omega arith) in
-        let parts : splitAt n us ≡ some (take n us, drop n us) = rw take-append-drop at (splitAt-append (take n us) (drop n us) n (length-take-le n us room)) in
-        rw (parts, ← is, drop-drop n at bs)
+        let n = width (k .shape) in
+        let here = drop at us in
+        let room : n ≤ length here = rw length-drop (omega arith) in
+        let parts : splitAt n here ≡ some (take n here, drop n here) = rw take-append-drop at (splitAt-append (take n here) (drop n here) n (length-take-le n here room)) in
+        rw (parts, ← is, drop-drop n at us)
 
-    pub turn-meaningless : ltb v (K.values (k .shape)) ≡ false → Turned bs at k (Fault 5)
-    turn-meaningless h = record { reads = rw (whole, h); beside = record { positive = omega arith; small = omega arith } }
+    pub turn-meaningless : ltb v (K.values (k .shape)) ≡ false → Numbered meaningless → Turned (literal base width missing meaningless) us at k (Fault meaningless)
+    turn-meaningless h numbered = record { reads = rw (whole, h); beside = numbered }
 
-    pub turn-fault : (n : ℕ) → ltb v (K.values (k .shape)) ≡ true → n ≡ k .fault v → (n ≡ 0 → ⊥) → n < 32 → Turned bs at k (Fault n)
+    pub turn-fault : (n : ℕ) → ltb v (K.values (k .shape)) ≡ true → n ≡ k .fault v → (n ≡ 0 → ⊥) → n < 32 → Turned (literal base width missing meaningless) us at k (Fault n)
     turn-fault n h e p small =
         record { reads = rw (whole, h, ← e, judged-fault v n p); beside = record { positive = omega arith; small = small } }
 
-    pub turn-value : ltb v (K.values (k .shape)) ≡ true → k .fault v ≡ 0 → Turned bs at k (Value v)
+    pub turn-value : ltb v (K.values (k .shape)) ≡ true → k .fault v ≡ 0 → Turned (literal base width missing meaningless) us at k (Value v)
     turn-value h e =
         record {
           reads = rw (whole, h, e);

@@ -8,6 +8,7 @@ pub mod floats;
 pub mod letters;
 pub mod ranges;
 pub mod turn;
+pub mod words;
 
 pub enum Kind {
     Magic,

@@ -6,6 +6,7 @@ ghost use lib.Dec.{ltb};
 ghost use lib.ListN.{length, take, drop};
 ghost use Rattle.format.specs.Digits.{number};
 ghost use Rattle.format.specs.Kind.{size, values};
+ghost use Rattle.drawing.specs.Codecs.{byteFields};
 ghost use Rattle.fields.specs.Kinds.{kindOf};
 ghost use Rattle.fields.specs.Turn.{isSize, isFlag, Turned};
 use crate::Kind;
@@ -81,7 +82,7 @@ pub fn has_value(kind: Kind, number: u64) -> bool
 // A field that is cut is 2, and a flag that is neither 0 nor 1 is 5.
 pub fn turn_at(file: &[u8], at: usize, kind: Kind) -> Turn
     requires { ⌜ at ≤ length (now file) ⌝ }
-    ensures { λ r. ⌜ Turned (now (file .entry)) at (kindOf kind) r ⌝ }
+    ensures { λ r. ⌜ Turned byteFields (now (file .entry)) at (kindOf kind) r ⌝ }
 {
     let wide = size(kind);
     if file.len() - at < wide {

@@ -16,7 +16,7 @@ use Rattle.format.specs.Kind.{Allowed}
 use Rattle.format.specs.LeafLaws.{below-drop, known-below}
 use Rattle.format.specs.Codec.{Outcome, found, refused, andThen}
 use Rattle.format.specs.Layout.{Layout, parse}
-use Rattle.drawing.specs.Codecs.{bytes}
+use Rattle.drawing.specs.Codecs.{bytes, byteFields}
 use Rattle.drawing.specs.Limits.{lengthLimit, lastMinor, depthLimit}
 use Rattle.drawing.specs.Fields.{charWhere, versionChars, versionZero}
 use Rattle.drawing.specs.FieldLaws.{unless-zero}
@@ -54,10 +54,10 @@ outer-all : (total v words : ℕ) (os : Objects) (d : String) (us : List ℕ) �
 outer-all total v words os d [] h = refl
 outer-all total v words os d (b ∷ rest) h = absurd (omega arith)
 
-module _ (file : List ℕ) (known : (i : ℕ) → Fits w8 (getD file i 0)) (v at words : ℕ) (within : Within (length file) at words) (t : Turn) (turned : Turned file at (kindOf Kind.OuterId) t) where
+module _ (file : List ℕ) (known : (i : ℕ) → Fits w8 (getD file i 0)) (v at words : ℕ) (within : Within (length file) at words) (t : Turn) (turned : Turned byteFields file at (kindOf Kind.OuterId) t) where
   pub outer-fault : (n : ℕ) → t ≡ Turn.Fault n → ScannedOuter file v at words (Scan.Refused n at)
   outer-fault n is =
-      let r : Turned file at (kindOf Kind.OuterId) (Turn.Fault n) = rw is at turned in
+      let r : Turned byteFields file at (kindOf Kind.OuterId) (Turn.Fault n) = rw is at turned in
       record {
         says =
             ap (λ m. Scan.Refused n m) (sym (place-of file at (within .inside)))
@@ -68,13 +68,13 @@ module _ (file : List ℕ) (known : (i : ℕ) → Fits w8 (getD file i 0)) (v at
   module _ (c : ℕ) (is : t ≡ Turn.Value c) where
     pub outer-begins : Placed (length file) (at + 2) 1 words
     outer-begins =
-        let r : Turned file at (kindOf Kind.OuterId) (Turn.Value c) = rw is at turned in
+        let r : Turned byteFields file at (kindOf Kind.OuterId) (Turn.Value c) = rw is at turned in
         let inside : at + 2 ≤ length file = r .beside .inside in
         record { short = within .short; inside = inside; few-rows = omega arith; few-words = omega (arith, within .few) }
 
     from-group : parse bytes (outerGroup v) (drop at file) ≡ parse bytes (groupBody v (object v (depthLimit - 1))) (drop (at + 2) file)
     from-group =
-        let r : Turned file at (kindOf Kind.OuterId) (Turn.Value c) = rw is at turned in
+        let r : Turned byteFields file at (kindOf Kind.OuterId) (Turn.Value c) = rw is at turned in
         outer-parse v (drop at file) ∙ ap (λ o. andThen o (λ c rest. parse bytes (groupBody v (object v (depthLimit - 1))) rest)) (r .reads)
 
     module _ (g : Scan) (scanned : ScannedGroup file v 15 (at + 2) 1 words g) where
@@ -186,10 +186,10 @@ version-in c a =
     let h = both (leb versionZero c) (leb c (versionZero + lastMinor)) (unless-zero (leb versionZero c && leb c (versionZero + lastMinor)) 4 tt (a .faultless)) in
     (leb-true versionZero c (h .0), leb-true c (versionZero + lastMinor) (h .1))
 
-module _ (file : List ℕ) (within : Within (length file) 6 0) (t : Turn) (turned : Turned file 6 (kindOf Kind.VersionLength) t) where
+module _ (file : List ℕ) (within : Within (length file) 6 0) (t : Turn) (turned : Turned byteFields file 6 (kindOf Kind.VersionLength) t) where
   pub version-length-fault : (n : ℕ) → t ≡ Turn.Fault n → ScannedVersion file 6 (Scan.Refused n 6)
   version-length-fault n is =
-      let r : Turned file 6 (kindOf Kind.VersionLength) (Turn.Fault n) = rw is at turned in
+      let r : Turned byteFields file 6 (kindOf Kind.VersionLength) (Turn.Fault n) = rw is at turned in
       record {
         says =
             ap (λ m. Scan.Refused n m) (sym (place-of file 6 (within .inside)))
@@ -199,31 +199,31 @@ module _ (file : List ℕ) (within : Within (length file) 6 0) (t : Turn) (turne
 
   module _ (three : ℕ) (is : t ≡ Turn.Value three) where
     pub version-inside : 10 ≤ length file
-    version-inside = let r : Turned file 6 (kindOf Kind.VersionLength) (Turn.Value three) = rw is at turned in r .beside .inside
+    version-inside = let r : Turned byteFields file 6 (kindOf Kind.VersionLength) (Turn.Value three) = rw is at turned in r .beside .inside
 
     from-chars : (o : Outcome ℕ) → bytes .read versionChars (drop 10 file) ≡ o
         → fileScan (length file) (reading (length file) (fromVersion (drop 6 file))) ≡ fileScan (length file) (reading (length file) (andThen o (λ c rest₂. fromSettings (c - versionZero) rest₂)))
     from-chars o e =
-        let r : Turned file 6 (kindOf Kind.VersionLength) (Turn.Value three) = rw is at turned in
+        let r : Turned byteFields file 6 (kindOf Kind.VersionLength) (Turn.Value three) = rw is at turned in
         ap (λ o. fileScan (length file) (reading (length file) (andThen o (λ three rest. andThen (bytes .read versionChars rest) (λ c rest₂. fromSettings (c - versionZero) rest₂))))) (r .reads)
         ∙ ap (λ o. fileScan (length file) (reading (length file) (andThen o (λ c rest₂. fromSettings (c - versionZero) rest₂)))) e
 
-    module _ (u : Turn) (chars : Turned file 10 (kindOf Kind.Version) u) where
+    module _ (u : Turn) (chars : Turned byteFields file 10 (kindOf Kind.Version) u) where
       pub version-fault : (n : ℕ) → u ≡ Turn.Fault n → ScannedVersion file 6 (Scan.Refused n 10)
       version-fault n at-fault =
-          let r : Turned file 10 (kindOf Kind.Version) (Turn.Fault n) = rw at-fault at chars in
+          let r : Turned byteFields file 10 (kindOf Kind.Version) (Turn.Fault n) = rw at-fault at chars in
           record { says = ap (λ m. Scan.Refused n m) (sym (place-of file 10 version-inside)) ∙ sym (from-chars (refused n (drop 10 file)) (r .reads)); few = tt }
 
       module _ (c : ℕ) (allowed : u ≡ Turn.Value c) where
         pub version-of : (versionZero ≤ c) × (c ≤ versionZero + lastMinor) × Within (length file) 16 1
         version-of =
-            let r : Turned file 10 (kindOf Kind.Version) (Turn.Value c) = rw allowed at chars in
+            let r : Turned byteFields file 10 (kindOf Kind.Version) (Turn.Value c) = rw allowed at chars in
             let v = version-in c (r .beside .allowed) in
             (v .0, v .1, record { short = within .short; inside = r .beside .inside; few = omega arith })
 
         pub version-settings : (r : Scan) → ScannedSettings file (c - versionZero) 16 r → ScannedVersion file 6 r
         version-settings r s =
-            let read : Turned file 10 (kindOf Kind.Version) (Turn.Value c) = rw allowed at chars in
+            let read : Turned byteFields file 10 (kindOf Kind.Version) (Turn.Value c) = rw allowed at chars in
             record { says = s .says ∙ sym (from-chars (found c (drop 16 file)) (read .reads)); few = s .few }
 
 -- ---- the file
@@ -231,7 +231,7 @@ module _ (file : List ℕ) (within : Within (length file) 6 0) (t : Turn) (turne
 pub file-long : (file : List ℕ) → lengthLimit < length file → ScannedFile file (Scan.Refused 1 65535)
 file-long file h = record { says = sym (ap (λ t. fileScan (length file) (cond t (refusal 1 lengthLimit) (reading (length file) (parse bytes fileLayout file)))) (lt-ltb lengthLimit (length file) h)); few = tt }
 
-module _ (file : List ℕ) (short : length file ≤ lengthLimit) (t : Turn) (turned : Turned file 0 (kindOf Kind.Magic) t) where
+module _ (file : List ℕ) (short : length file ≤ lengthLimit) (t : Turn) (turned : Turned byteFields file 0 (kindOf Kind.Magic) t) where
   as-read : (o : Outcome ℕ) → bytes .read (kindOf Kind.Magic) file ≡ o
       → fileScan (length file) (drawingOf file) ≡ fileScan (length file) (reading (length file) (andThen o (λ m rest. fromVersion rest)))
   as-read o e =
@@ -240,16 +240,16 @@ module _ (file : List ℕ) (short : length file ≤ lengthLimit) (t : Turn) (tur
 
   pub magic-fault : (n : ℕ) → t ≡ Turn.Fault n → ScannedFile file (Scan.Refused n 0)
   magic-fault n is =
-      let r : Turned file 0 (kindOf Kind.Magic) (Turn.Fault n) = rw is at turned in
+      let r : Turned byteFields file 0 (kindOf Kind.Magic) (Turn.Fault n) = rw is at turned in
       record { says = ap (λ m. Scan.Refused n m) (sym (place-of file 0 (omega arith))) ∙ sym (as-read (refused n file) (r .reads)); few = tt }
 
   module _ (m : ℕ) (is : t ≡ Turn.Value m) where
     pub magic-within : Within (length file) 6 0
     magic-within =
-        let r : Turned file 0 (kindOf Kind.Magic) (Turn.Value m) = rw is at turned in
+        let r : Turned byteFields file 0 (kindOf Kind.Magic) (Turn.Value m) = rw is at turned in
         record { short = short; inside = r .beside .inside; few = omega arith }
 
     pub magic-version : (r : Scan) → ScannedVersion file 6 r → ScannedFile file r
     magic-version r s =
-        let read : Turned file 0 (kindOf Kind.Magic) (Turn.Value m) = rw is at turned in
+        let read : Turned byteFields file 0 (kindOf Kind.Magic) (Turn.Value m) = rw is at turned in
         record { says = s .says ∙ sym (as-read (found m (drop 6 file)) (read .reads)); few = s .few }

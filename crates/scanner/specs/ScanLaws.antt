@@ -18,12 +18,12 @@ use Rattle.format.specs.FixedCodec.{spellFixed}
 use Rattle.format.specs.Script.{ask}
 use Rattle.format.specs.Translate.{prefixed}
 use Rattle.format.specs.TranslateLaws.{length-recoded}
-use Rattle.drawing.specs.Codecs.{wordFields}
+use Rattle.drawing.specs.Codecs.{wordFields, byteFields}
 use Rattle.fields.specs.declared.Kind.{Kind}
 use Rattle.fields.specs.declared.turn.Turn.the-variants as Turn
 use Rattle.fields.specs.Kinds.{kindOf}
-use Rattle.fields.specs.KindLaws.{readable}
-use Rattle.fields.specs.Turn.{isSize, Turned}
+use Rattle.fields.specs.WordLaws.{size-bounds}
+use Rattle.fields.specs.Turn.{Turned}
 use Rattle.automaton.specs.declared.Expect.{Expect}
 use Rattle.automaton.specs.declared.want.Want.the-variants as Want
 use Rattle.automaton.specs.Wants.{wantOf}
@@ -108,18 +108,11 @@ module _ (file : List ℕ) (v : ℕ) (e : Expect) (at words w u left : ℕ) (kno
       let each : suc left * 1 ≤ suc left * w = Nat.mul-le-mul-left (suc left) (runs .positive) in
       rw add-one (enough, omega (arith, within .few), omega arith)
 
-sized-positive : (n : ℕ) → isSize n ≡ true → 0 < n
-sized-positive zero e = let z : _≡_ {A = Bool} false true = e in let o : _≡_ {A = ℕ} 0 1 = cc in absurd (omega arith)
-sized-positive (suc n) e = omega arith
-
-pub size-positive : (k : Kind) → 0 < size (kindOf k .shape)
-size-positive k = sized-positive (size (kindOf k .shape)) (readable k .sized)
-
 module _ (file : List ℕ) (v : ℕ) (e : Expect) (at words : ℕ) (k : Kind) (within : Within (length file) at words) (wants : wantOf v e ≡ Want.One k) where
   asks : den v e ≡ ask (kindOf k) (λ x. den v (afterOf v e x))
   asks = wanted v e (Want.One k) wants
 
-  pub field-fault : (n : ℕ) → Turned file at (kindOf k) (Turn.Fault n) → Stepped file v e at words (Step.Refused n at)
+  pub field-fault : (n : ℕ) → Turned byteFields file at (kindOf k) (Turn.Fault n) → Stepped file v e at words (Step.Refused n at)
   field-fault n t =
       record {
         says = λ rows.
@@ -129,10 +122,10 @@ module _ (file : List ℕ) (v : ℕ) (e : Expect) (at words : ℕ) (k : Kind) (w
         forward = tt;
       }
 
-  pub field-value : (x wide : ℕ) (next : Expect) → Turned file at (kindOf k) (Turn.Value x) → wide ≡ size (kindOf k .shape) → next ≡ afterOf v e x
+  pub field-value : (x wide : ℕ) (next : Expect) → Turned byteFields file at (kindOf k) (Turn.Value x) → wide ≡ size (kindOf k .shape) → next ≡ afterOf v e x
       → Stepped file v e at words (Step.More next (at + wide) (words + (wide + 3) / 4))
   field-value x wide next t is leads =
-      let positive : 0 < size (kindOf k .shape) = size-positive k in
+      let positive : 0 < size (kindOf k .shape) = size-bounds k .0 in
       let inside : at + size (kindOf k .shape) ≤ length file = t .beside .inside in
       rw (is, leads)
       (record {
@@ -145,9 +138,9 @@ module _ (file : List ℕ) (v : ℕ) (e : Expect) (at words : ℕ) (k : Kind) (w
       })
 
   -- The sums stay below the file's length.
-  pub field-fits : (x : ℕ) → Turned file at (kindOf k) (Turn.Value x) → (at + size (kindOf k .shape) ≤ length file) × (words + (size (kindOf k .shape) + 3) / 4 ≤ length file)
+  pub field-fits : (x : ℕ) → Turned byteFields file at (kindOf k) (Turn.Value x) → (at + size (kindOf k .shape) ≤ length file) × (words + (size (kindOf k .shape) + 3) / 4 ≤ length file)
   field-fits x t =
-      let positive : 0 < size (kindOf k .shape) = size-positive k in
+      let positive : 0 < size (kindOf k .shape) = size-bounds k .0 in
       let inside : at + size (kindOf k .shape) ≤ length file = t .beside .inside in
       (inside, omega (arith, within .few))
 

@@ -10,7 +10,6 @@ use mathlib.Core.List.{List, [], _∷_, _++_}
 use lib.Dec.{ltb}
 use lib.ListN.{length, take, drop, getD, length-append, length-drop}
 use lib.Seq.{take-at, drop-at, drop-drop}
-use borrow.Author.Tests.{ne-eqb}
 use mir.Syntax.{w8}
 use mir.Val as Val
 use Rattle.format.specs.Digits.{Below, number, digits}
@@ -34,7 +33,8 @@ use Rattle.automaton.specs.Afters.{afterOf}
 use Rattle.automaton.specs.Denote.{den}
 use Rattle.scanner.specs.Runs.{Runs, inWords}
 use Rattle.scanner.specs.RunLaws.{wanted}
-use Rattle.scanner.specs.ScanLaws.{size-positive, place-of}
+use Rattle.fields.specs.WordLaws.{size-bounds}
+use Rattle.scanner.specs.ScanLaws.{place-of}
 use Rattle.store.specs.declared.Move.the-variants as Move
 use Rattle.store.specs.Splice.{splice, Finish, finish, Fits, Storable, Moved}
 use Rattle.store.specs.SpliceLaws.{splice-nil, splice-behind, length-splice}
@@ -123,23 +123,6 @@ module _ (file : List ℕ) (known : (i : ℕ) → Val.Fits w8 (getD file i 0)) (
 
 -- ---- a field
 
--- The sizes of fields are at most eight bytes.
-sized-most : (n : ℕ) → isSize n ≡ true → n ≤ 8
-sized-most n e =
-    let few : n < 9 = not-le 9 n (λ h.
-    let a = ne-eqb n 1 (λ x. omega arith) in
-    let b = ne-eqb n 2 (λ x. omega arith) in
-    let c = ne-eqb n 4 (λ x. omega arith) in
-    let d = ne-eqb n 6 (λ x. omega arith) in
-    let f = ne-eqb n 8 (λ x. omega arith) in
-    let z : false ≡ true = rw (a, b, c, d, f) at e in
-    let o : _≡_ {A = ℕ} 0 1 = cc in
-    omega arith) in
-    omega arith
-
-pub size-most : (k : Code.Kind) → size (kindOf k .shape) ≤ 8
-size-most k = sized-most (size (kindOf k .shape)) (readable k .sized)
-
 -- What reading a field says, where a value is found.
 pub record Read (k : Kind) (us : List ℕ) (x : ℕ) (rest : List ℕ) : Type 0 where
   pub there : size (k .shape) ≤ length us
@@ -224,7 +207,7 @@ module _ (file : List ℕ) (v : ℕ) (e : Expect) (at to : ℕ) (s : List ℕ) (
     pub field-storable : ((i : ℕ) → Val.Fits w8 (getD file i 0)) → (wide : ℕ) → wide ≡ size (kindOf k .shape)
         → (to + (wide + 3) / 4 ≤ length s) × (1 ≤ wide) × (wide ≤ 8) × (x < 256 ^ wide)
     field-storable known wide wide-is =
-        rw wide-is (field-room, size-positive k, size-most k, rw is (field-below 256 file at (size (kindOf k .shape)) (here .inside) (known-below w8 file known)))
+        rw wide-is (field-room, size-bounds k .0, size-bounds k .1, rw is (field-below 256 file at (size (kindOf k .shape)) (here .inside) (known-below w8 file known)))
 
     pub field-moved : (t : List ℕ) (next : Expect) (wide : ℕ) → wide ≡ size (kindOf k .shape) → t ≡ splice to (digits (2 ^ 32) ((wide + 3) / 4) x) s → next ≡ afterOf v e x
         → Moved file v e at to s t (Move.More next (at + wide) (to + (wide + 3) / 4))
@@ -234,7 +217,7 @@ module _ (file : List ℕ) (v : ℕ) (e : Expect) (at to : ℕ) (s : List ℕ) (
         let kept : length t ≡ length s = ap length stored ∙ length-splice to (spellFixed wordFields (kindOf k) x) s (parts .0) in
         let fits : Fits (length t) (to + (size (kindOf k .shape) + 3) / 4) behind =
         subst (λ n. Fits n (to + (size (kindOf k .shape) + 3) / 4) behind) (sym kept) (subst (λ n. Fits (length s) (to + n) behind) word-count (parts .1)) in
-        let positive : 0 < size (kindOf k .shape) = size-positive k in
+        let positive : 0 < size (kindOf k .shape) = size-bounds k .0 in
         rw (leads, wide-is)
         (record {
           says =

@@ -11,6 +11,7 @@ use Rattle.format.specs.Kind as K
 use Rattle.format.specs.LeafLaws.{field-below, known-below}
 use Rattle.fields.specs.Kinds.{kindOf}
 use Rattle.fields.specs.KindLaws.{readable}
+use Rattle.fields.specs.Turn.{Numbered}
 use Rattle.fields.specs.TurnLaws.{turn-cut, turn-meaningless, turn-fault, turn-value}
 use Rattle.fields.proofs.turn.turn_at.Statement.{statement}
 use Rattle.fields.proofs.turn.turn_at.Tie as tie
@@ -23,16 +24,22 @@ is : (c : tie.After-value-at) → let start = c .before .before .before .before 
     c .value-at .result ≡ number 256 (take (K.size (kindOf (start .kind) .shape)) (drop (start .at) (start .file .now)))
 is c = rw (← (c .before .before .size .ensures)) (c .value-at .ensures)
 
+cut-number : Numbered 2
+cut-number = record { positive = omega arith; small = omega arith }
+
+flag-number : Numbered 5
+flag-number = record { positive = omega arith; small = omega arith }
+
 pub turn-at-spec : {M : Type 1} → statement M
 turn-at-spec =
     tie.close
     (tie.spec
     (λ c κs. search needs)
     (λ c. search needs)
-    (λ c. turn-cut _ _ _ (rw (c .before .size .ensures) at (c .if1 .taken)))
+    (λ c. turn-cut _ _ _ _ _ _ _ (rw (c .before .size .ensures) at (c .if1 .taken)) cut-number)
     (λ c κs. (rw (c .before .size .ensures) (readable (c .before .before .before .args .kind) .sized), omega arith))
     (λ c κs. let start = c .before .before .before .before .args in rw (is c) (field-below 256 (start .file .now) (start .at) _ (inside (c .before)) (known-below w8 (start .file .now) (c .before .before .before .shared-slice-known .given))))
     (λ c κs. ltb-true _ _ (sym (c .before .has-value .ensures) ∙ c .if2 .taken))
-    (λ c. let read = c .before .before .before .before in turn-value _ _ _ _ (inside (read .before)) (is read) (sym (c .before .before .before .has-value .ensures) ∙ c .before .before .if2 .taken) (sym (c .before .fault .ensures) ∙ c .if3 .taken))
-    (λ c. let read = c .before .before .before .before in let kind = read .before .before .before .before .args .kind in turn-fault _ _ _ _ (inside (read .before)) (is read) _ (sym (c .before .before .before .has-value .ensures) ∙ c .before .before .if2 .taken) (c .before .fault .ensures) (c .if3 .left) (ltb-true _ _ (rw (c .before .fault .ensures) (readable kind .small (read .value-at .result)))))
-    (λ c. let read = c .before .before in turn-meaningless _ _ _ _ (inside (read .before)) (is read) (sym (c .before .has-value .ensures) ∙ c .if2 .left)))
+    (λ c. let read = c .before .before .before .before in turn-value _ _ _ _ _ _ _ _ (inside (read .before)) (is read) (sym (c .before .before .before .has-value .ensures) ∙ c .before .before .if2 .taken) (sym (c .before .fault .ensures) ∙ c .if3 .taken))
+    (λ c. let read = c .before .before .before .before in let kind = read .before .before .before .before .args .kind in turn-fault _ _ _ _ _ _ _ _ (inside (read .before)) (is read) _ (sym (c .before .before .before .has-value .ensures) ∙ c .before .before .if2 .taken) (c .before .fault .ensures) (c .if3 .left) (ltb-true _ _ (rw (c .before .fault .ensures) (readable kind .small (read .value-at .result)))))
+    (λ c. let read = c .before .before in turn-meaningless _ _ _ _ _ _ _ _ (inside (read .before)) (is read) (sym (c .before .has-value .ensures) ∙ c .if2 .left) flag-number))
