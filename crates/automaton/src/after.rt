@@ -3,22 +3,22 @@
 use crate::Bitmaps;
 use crate::Chain;
 use crate::Expect;
-use crate::Gradient;
-use crate::Joins;
 use crate::MarkerAt;
 use crate::Markers;
 use crate::Outline;
 use crate::PaintAt;
 use crate::Paints;
-use crate::PlainAt;
-use crate::Plains;
 use crate::Settings;
 use crate::StringAt;
 use crate::Strings;
 use crate::Style;
 use crate::Texts;
+use crate::marker_steps::after_marker;
+use crate::outline_steps::after_outline;
+use crate::paint_steps::after_paint;
+use crate::paint_steps::after_plain;
 ghost use mathlib.Core.Path.{_≡_};
-ghost use Rattle.automaton.specs.Afters.{afterOf, leafStart, behindPaper, afterSettings, behindString, afterString, behindPaint, behindPlain, plainParts, afterGradient, afterPaint, afterPlain, behindChain, afterId, afterReversed, afterOverlay, afterMarker, afterStyle, behindSegment, afterCount, isCurve, afterSegmentLetter, afterOutline, afterText, afterBitmap, behindFlowFlag};
+ghost use Rattle.automaton.specs.Afters.{afterOf, leafStart, behindPaper, afterSettings, behindString, afterString, afterStyle, afterText, afterBitmap, behindFlowFlag};
 
 pub fn after(version: u32, state: Expect, value: u64) -> Expect
     ensures { λ r. ⌜ r ≡ afterOf version state value ⌝ }
@@ -147,220 +147,6 @@ fn after_string(state: Strings, place: StringAt, value: u64) -> Expect
     }
 }
 
-fn behind_paint(place: PaintAt) -> Expect
-    ensures { λ r. ⌜ r ≡ behindPaint place ⌝ }
-{
-    match place {
-        PaintAt::Line => Expect::Paint(Paints::Letter, PaintAt::Fill),
-        PaintAt::Fill => Expect::Style(Style::Width),
-        PaintAt::Text => Expect::String(Strings::Length, StringAt::Text),
-    }
-}
-
-fn behind_plain(place: PlainAt) -> Expect
-    ensures { λ r. ⌜ r ≡ behindPlain place ⌝ }
-{
-    match place {
-        PlainAt::Whole(p) => behind_paint(p),
-        PlainAt::From(p, g) => Expect::Plain(Plains::Letter, PlainAt::To(p, g)),
-        PlainAt::To(p, g) => Expect::Paint(Paints::Position(g), p),
-        PlainAt::Marker(chain) => Expect::Marker(Markers::Overlay, chain),
-    }
-}
-
-// What follows the letter of a plain paint: R, C, and from 1.4 Y and S. Another letter leads elsewhere.
-fn plain_parts(version: u32, place: PlainAt, letter: u64, other: Expect) -> Expect
-    ensures { λ r. ⌜ r ≡ plainParts version place letter other ⌝ }
-{
-    if letter == 0x52 {
-        return Expect::Plain(Plains::Components(3), place);
-    }
-    if letter == 0x43 {
-        return Expect::Plain(Plains::Components(4), place);
-    }
-    if 4 <= version {
-        if letter == 0x59 {
-            return Expect::Plain(Plains::Components(1), place);
-        }
-        if letter == 0x53 {
-            return Expect::Plain(Plains::Hue, place);
-        }
-        return other;
-    }
-    other
-}
-
-// A gradient's letter, G and from 1.3 D; a T has nothing behind it.
-fn after_gradient(version: u32, place: PaintAt, letter: u64) -> Expect
-    ensures { λ r. ⌜ r ≡ afterGradient version place letter ⌝ }
-{
-    if letter == 0x47 {
-        return Expect::Plain(Plains::Letter, PlainAt::From(place, Gradient::Linear));
-    }
-    if 3 <= version {
-        if letter == 0x44 {
-            return Expect::Plain(Plains::Letter, PlainAt::From(place, Gradient::Radial));
-        }
-        return behind_paint(place);
-    }
-    behind_paint(place)
-}
-
-fn after_paint(version: u32, state: Paints, place: PaintAt, value: u64) -> Expect
-    ensures { λ r. ⌜ r ≡ afterPaint version state place value ⌝ }
-{
-    match state {
-        Paints::Letter => {
-            let other = after_gradient(version, place, value);
-            plain_parts(version, PlainAt::Whole(place), value, other)
-        }
-        Paints::Position(_) => behind_paint(place),
-    }
-}
-
-fn after_plain(version: u32, state: Plains, place: PlainAt, value: u64) -> Expect
-    ensures { λ r. ⌜ r ≡ afterPlain version state place value ⌝ }
-{
-    match state {
-        Plains::Letter => {
-            let other = behind_plain(place);
-            plain_parts(version, place, value, other)
-        }
-        Plains::Hue => Expect::Plain(Plains::Components(2), place),
-        Plains::Components(left) => {
-            if left == 0 {
-                behind_plain(place)
-            } else {
-                Expect::Plain(Plains::Components(left - 1), place)
-            }
-        }
-    }
-}
-
-// Mid markers come from 1.1 on.
-fn behind_chain(version: u32, which: MarkerAt) -> Expect
-    ensures { λ r. ⌜ r ≡ behindChain version which ⌝ }
-{
-    match which {
-        MarkerAt::Start => {
-            if version >= 1 {
-                Expect::Marker(
-                    Markers::Id,
-                    Chain {
-                        which: MarkerAt::Mid,
-                        left: 4,
-                    },
-                )
-            } else {
-                Expect::Marker(
-                    Markers::Id,
-                    Chain {
-                        which: MarkerAt::End,
-                        left: 4,
-                    },
-                )
-            }
-        }
-        MarkerAt::Mid => Expect::Marker(
-            Markers::Id,
-            Chain {
-                which: MarkerAt::End,
-                left: 4,
-            },
-        ),
-        MarkerAt::End => Expect::Outline(Outline::Closed),
-    }
-}
-
-// An id of 0 ends the chain.
-fn after_id(version: u32, chain: Chain, id: u64) -> Expect
-    ensures { λ r. ⌜ r ≡ afterId version chain id ⌝ }
-{
-    let which = chain.which;
-    let left = chain.left;
-    if left == 0 {
-        return behind_chain(version, which);
-    }
-    if id == 0 {
-        return behind_chain(version, which);
-    }
-    Expect::Marker(
-        Markers::Size,
-        Chain {
-            which: which,
-            left: left - 1,
-        },
-    )
-}
-
-// In 1.0 a marker ends with its reversed flag.
-fn after_reversed(version: u32, chain: Chain) -> Expect
-    ensures { λ r. ⌜ r ≡ afterReversed version chain ⌝ }
-{
-    let which = chain.which;
-    if 1 <= version {
-        Expect::Marker(Markers::AutoOrient, chain)
-    } else {
-        behind_chain(version, which)
-    }
-}
-
-fn after_marker(version: u32, state: Markers, chain: Chain, value: u64) -> Expect
-    ensures { λ r. ⌜ r ≡ afterMarker version state chain value ⌝ }
-{
-    match state {
-        Markers::Id => after_id(version, chain, value),
-        Markers::Size => {
-            if 1 <= version {
-                Expect::Marker(Markers::Repeat, chain)
-            } else {
-                Expect::Marker(Markers::Double, chain)
-            }
-        }
-        Markers::Double => Expect::Marker(Markers::Reversed, chain),
-        Markers::Repeat => Expect::Marker(Markers::Reversed, chain),
-        Markers::Reversed => after_reversed(version, chain),
-        Markers::AutoOrient => {
-            if value == 0 {
-                Expect::Marker(Markers::Angle, chain)
-            } else {
-                Expect::Plain(Plains::Letter, PlainAt::Marker(chain))
-            }
-        }
-        Markers::Angle => Expect::Plain(Plains::Letter, PlainAt::Marker(chain)),
-        Markers::Overlay => after_overlay(version, chain, value),
-        Markers::OffsetFlag => {
-            if value == 1 {
-                Expect::Marker(Markers::Offset, chain)
-            } else {
-                Expect::Marker(Markers::RepeatFlag, chain)
-            }
-        }
-        Markers::Offset => Expect::Marker(Markers::RepeatFlag, chain),
-        Markers::RepeatFlag => {
-            if value == 1 {
-                Expect::Marker(Markers::RepeatOffset, chain)
-            } else {
-                Expect::Marker(Markers::Id, chain)
-            }
-        }
-        Markers::RepeatOffset => Expect::Marker(Markers::Id, chain),
-    }
-}
-
-// In 1.4 the offsets stand where overlay is 0.
-fn after_overlay(version: u32, chain: Chain, overlay: u64) -> Expect
-    ensures { λ r. ⌜ r ≡ afterOverlay version chain overlay ⌝ }
-{
-    if 4 <= version {
-        if overlay == 0 {
-            return Expect::Marker(Markers::OffsetFlag, chain);
-        }
-        return Expect::Marker(Markers::Id, chain);
-    }
-    Expect::Marker(Markers::Id, chain)
-}
-
 fn after_style(state: Style, value: u64) -> Expect
     ensures { λ r. ⌜ r ≡ afterStyle state value ⌝ }
 {
@@ -390,89 +176,6 @@ fn after_style(state: Style, value: u64) -> Expect
                 left: 4,
             },
         ),
-    }
-}
-
-// Behind a segment comes the next, which joins it so, or the end of the path.
-fn behind_segment(left: u64, joins: Joins) -> Expect
-    ensures { λ r. ⌜ r ≡ behindSegment left joins ⌝ }
-{
-    if left == 0 {
-        Expect::FlowFlag
-    } else {
-        Expect::Outline(Outline::Letter(left - 1, joins))
-    }
-}
-
-fn after_count(version: u32, count: u64) -> Expect
-    ensures { λ r. ⌜ r ≡ afterCount version count ⌝ }
-{
-    if 3 <= version {
-        Expect::Outline(Outline::Start(count))
-    } else {
-        behind_segment(count, Joins::Free)
-    }
-}
-
-// Any letter but L and M is that of a curve.
-fn is_curve(letter: u64) -> bool
-    ensures { λ r. ⌜ r ≡ isCurve letter ⌝ }
-{
-    if letter == 0x4C {
-        return false;
-    }
-    if letter == 0x4D {
-        return false;
-    }
-    true
-}
-
-fn after_segment_letter(version: u32, left: u64, joins: Joins, letter: u64) -> Expect
-    ensures { λ r. ⌜ r ≡ afterSegmentLetter version left joins letter ⌝ }
-{
-    let curve = is_curve(letter);
-    if 3 <= version {
-        Expect::Outline(Outline::Points {
-            left: left,
-            curve: curve,
-        })
-    } else {
-        Expect::Outline(Outline::OwnX {
-            left: left,
-            curve: curve,
-            joins: joins,
-        })
-    }
-}
-
-fn after_outline(version: u32, state: Outline, value: u64) -> Expect
-    ensures { λ r. ⌜ r ≡ afterOutline version state value ⌝ }
-{
-    match state {
-        Outline::Closed => Expect::Outline(Outline::Count),
-        Outline::Count => after_count(version, value),
-        Outline::Start(segments) => behind_segment(segments, Joins::Free),
-        Outline::Letter(left, joins) => after_segment_letter(version, left, joins, value),
-        Outline::Points { left, curve: _ } => behind_segment(left, Joins::Free),
-        Outline::OwnX { left, curve, joins } => Expect::Outline(Outline::OwnY {
-            left: left,
-            curve: curve,
-            joins: joins,
-        }),
-        Outline::OwnY {
-            left,
-            curve,
-            joins: _,
-        } => {
-            if curve {
-                Expect::Outline(Outline::Controls(left))
-            } else {
-                Expect::Outline(Outline::EndX(left))
-            }
-        }
-        Outline::Controls(left) => Expect::Outline(Outline::EndX(left)),
-        Outline::EndX(left) => Expect::Outline(Outline::EndY(left, value)),
-        Outline::EndY(left, x) => behind_segment(left, Joins::To { x: x, y: value }),
     }
 }
 

@@ -1,6 +1,9 @@
 // The automaton: the code's one account of the layout. Here are its states, what field the layout asks for next, one enum for each thing of the
 // format. Strings, paints and markers stand in several places, and their states say in which, so that it is known what comes behind them.
 pub mod after;
+pub mod marker_steps;
+pub mod outline_steps;
+pub mod paint_steps;
 pub mod want;
 
 // Where a string stands.
