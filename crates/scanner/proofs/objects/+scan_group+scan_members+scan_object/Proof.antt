@@ -60,126 +60,6 @@ abbrev scan-object-below : ℕ → In 1 scan-object-kinds.ps
 scan-object-below t =
     and 1 scan-object-kinds.ps (falls 1 scan-object-kinds.ps _<_ μ-scan-object t) scan-object.Pre
 
-scan-group-turn-at-requires : (t : ℕ) → scan-group-lts.Need-turn-at-requires (
-  turn-at-reads.Asked,
-  turn-at-reads.Learnt,
-  scan-members-below t,
-  scan-members.Post,
-  scan-body-reads.Asked,
-  scan-body-reads.Learnt,
-) (scan-group-at t) scan-group.Post
-scan-group-turn-at-requires t c κs = c .before .pre .1 .inside
-
-scan-group-enum-known-count : (t : ℕ) → scan-group-lts.Need-enum-known-count (
-  turn-at-reads.Asked,
-  turn-at-reads.Learnt,
-  scan-members-below t,
-  scan-members.Post,
-  scan-body-reads.Asked,
-  scan-body-reads.Learnt,
-) (scan-group-at t) scan-group.Post
-scan-group-enum-known-count t c = search needs
-
-scan-group-enum-known-count-2 : (t : ℕ) → scan-group-lts.Need-enum-known-count-2 (
-  turn-at-reads.Asked,
-  turn-at-reads.Learnt,
-  scan-members-below t,
-  scan-members.Post,
-  scan-body-reads.Asked,
-  scan-body-reads.Learnt,
-) (scan-group-at t) scan-group.Post
-scan-group-enum-known-count-2 t c = search needs
-
-scan-group-add-scan-members : (t : ℕ) → scan-group-lts.Need-add-scan-members (
-  turn-at-reads.Asked,
-  turn-at-reads.Learnt,
-  scan-members-below t,
-  scan-members.Post,
-  scan-body-reads.Asked,
-  scan-body-reads.Learnt,
-) (scan-group-at t) scan-group.Post
-scan-group-add-scan-members t c = let p = group-members (c .before .before .before .before .before .args .file .now) (c .before .before .before .before .shared-slice-known .given) (c .before .before .before .before .before .args .version) (c .before .before .before .before .before .args .deep) (c .before .before .before .before .before .args .at) (c .before .before .before .before .before .args .rows) (c .before .before .before .before .before .args .words) (c .before .before .before .before .before .pre .1) (c .before .before .before .turn-at .result) (c .before .before .before .turn-at .ensures) (c .before .count2 .given .0 .0) (c .before .count2 .given .1) in omega (arith, p .inside, p .few-words, p .short)
-
-scan-group-add-scan-members-2 : (t : ℕ) → scan-group-lts.Need-add-scan-members-2 (
-  turn-at-reads.Asked,
-  turn-at-reads.Learnt,
-  scan-members-below t,
-  scan-members.Post,
-  scan-body-reads.Asked,
-  scan-body-reads.Learnt,
-) (scan-group-at t) scan-group.Post
-scan-group-add-scan-members-2 t c = let p = group-members (c .before .before .before .before .before .args .file .now) (c .before .before .before .before .shared-slice-known .given) (c .before .before .before .before .before .args .version) (c .before .before .before .before .before .args .deep) (c .before .before .before .before .before .args .at) (c .before .before .before .before .before .args .rows) (c .before .before .before .before .before .args .words) (c .before .before .before .before .before .pre .1) (c .before .before .before .turn-at .result) (c .before .before .before .turn-at .ensures) (c .before .count2 .given .0 .0) (c .before .count2 .given .1) in omega (arith, p .inside, p .few-words, p .short)
-
-scan-group-scan-members-requires : (t : ℕ) → scan-group-lts.Need-scan-members-requires (
-  turn-at-reads.Asked,
-  turn-at-reads.Learnt,
-  scan-members-below t,
-  scan-members.Post,
-  scan-body-reads.Asked,
-  scan-body-reads.Learnt,
-) (scan-group-at t) scan-group.Post
-scan-group-scan-members-requires t c κs = (omega (arith, c .before .before .before .before .before .pre .0), group-members (c .before .before .before .before .before .args .file .now) (c .before .before .before .before .shared-slice-known .given) (c .before .before .before .before .before .args .version) (c .before .before .before .before .before .args .deep) (c .before .before .before .before .before .args .at) (c .before .before .before .before .before .args .rows) (c .before .before .before .before .before .args .words) (c .before .before .before .before .before .pre .1) (c .before .before .before .turn-at .result) (c .before .before .before .turn-at .ensures) (c .before .count2 .given .0 .0) (c .before .count2 .given .1))
-
-scan-group-enum-known-passed : (t : ℕ) → scan-group-lts.Need-enum-known-passed (
-  turn-at-reads.Asked,
-  turn-at-reads.Learnt,
-  scan-members-below t,
-  scan-members.Post,
-  scan-body-reads.Asked,
-  scan-body-reads.Learnt,
-) (scan-group-at t) scan-group.Post
-scan-group-enum-known-passed t c = search needs
-
-scan-group-enum-known-passed-2 : (t : ℕ) → scan-group-lts.Need-enum-known-passed-2 (
-  turn-at-reads.Asked,
-  turn-at-reads.Learnt,
-  scan-members-below t,
-  scan-members.Post,
-  scan-body-reads.Asked,
-  scan-body-reads.Learnt,
-) (scan-group-at t) scan-group.Post
-scan-group-enum-known-passed-2 t c = search needs
-
-scan-group-scan-body-requires : (t : ℕ) → scan-group-lts.Need-scan-body-requires (
-  turn-at-reads.Asked,
-  turn-at-reads.Learnt,
-  scan-members-below t,
-  scan-members.Post,
-  scan-body-reads.Asked,
-  scan-body-reads.Learnt,
-) (scan-group-at t) scan-group.Post
-scan-group-scan-body-requires t c κs = let p = group-tail (c .before .before .before .before .before .before .before .before .before .args .file .now) (c .before .before .before .before .before .before .before .before .shared-slice-known .given) (c .before .before .before .before .before .before .before .before .before .args .version) (c .before .before .before .before .before .before .before .before .before .args .deep) (c .before .before .before .before .before .before .before .before .before .args .at) (c .before .before .before .before .before .before .before .before .before .args .rows) (c .before .before .before .before .before .before .before .before .before .args .words) (c .before .before .before .before .before .before .before .before .before .pre .1) (c .before .before .before .before .before .before .before .turn-at .result) (c .before .before .before .before .before .before .before .turn-at .ensures) (c .before .before .before .before .before .count2 .given .0 .0) (c .before .before .before .before .before .count2 .given .1) (c .before .before .before .scan-members .result) (c .before .before .before .scan-members .ensures) (c .before .passed2 .given .0 .0) (c .before .passed2 .given .0 .1 .0) (c .before .passed2 .given .0 .1 .1 .0) (c .before .passed2 .given .1) in record { short = p .short; inside = p .inside; few = p .few-words }
-
-scan-group-returns : (t : ℕ) → scan-group-lts.Need-returns (
-  turn-at-reads.Asked,
-  turn-at-reads.Learnt,
-  scan-members-below t,
-  scan-members.Post,
-  scan-body-reads.Asked,
-  scan-body-reads.Learnt,
-) (scan-group-at t) scan-group.Post
-scan-group-returns t c = group-fault (c .before .before .before .before .before .args .file .now) (c .before .before .before .before .shared-slice-known .given) (c .before .before .before .before .before .args .version) (c .before .before .before .before .before .args .deep) (c .before .before .before .before .before .args .at) (c .before .before .before .before .before .args .rows) (c .before .before .before .before .before .args .words) (c .before .before .before .before .before .pre .1) (c .before .before .before .turn-at .result) (c .before .before .before .turn-at .ensures) (c .before .count .given .0 .0) (c .before .count .given .1)
-
-scan-group-returns-2 : (t : ℕ) → scan-group-lts.Need-returns-2 (
-  turn-at-reads.Asked,
-  turn-at-reads.Learnt,
-  scan-members-below t,
-  scan-members.Post,
-  scan-body-reads.Asked,
-  scan-body-reads.Learnt,
-) (scan-group-at t) scan-group.Post
-scan-group-returns-2 t c = group-stop (c .before .before .before .before .before .before .before .before .before .args .file .now) (c .before .before .before .before .before .before .before .before .shared-slice-known .given) (c .before .before .before .before .before .before .before .before .before .args .version) (c .before .before .before .before .before .before .before .before .before .args .deep) (c .before .before .before .before .before .before .before .before .before .args .at) (c .before .before .before .before .before .before .before .before .before .args .rows) (c .before .before .before .before .before .before .before .before .before .args .words) (c .before .before .before .before .before .before .before .before .before .pre .1) (c .before .before .before .before .before .before .before .turn-at .result) (c .before .before .before .before .before .before .before .turn-at .ensures) (c .before .before .before .before .before .count2 .given .0 .0) (c .before .before .before .before .before .count2 .given .1) (c .before .before .before .scan-members .result) (c .before .before .before .scan-members .ensures) (c .before .passed .given .0 .0) (c .before .passed .given .0 .1 .0) (c .before .passed .given .1)
-
-scan-group-returns-3 : (t : ℕ) → scan-group-lts.Need-returns-3 (
-  turn-at-reads.Asked,
-  turn-at-reads.Learnt,
-  scan-members-below t,
-  scan-members.Post,
-  scan-body-reads.Asked,
-  scan-body-reads.Learnt,
-) (scan-group-at t) scan-group.Post
-scan-group-returns-3 t c = group-end (c .before .before .before .before .before .before .before .before .before .before .args .file .now) (c .before .before .before .before .before .before .before .before .before .shared-slice-known .given) (c .before .before .before .before .before .before .before .before .before .before .args .version) (c .before .before .before .before .before .before .before .before .before .before .args .deep) (c .before .before .before .before .before .before .before .before .before .before .args .at) (c .before .before .before .before .before .before .before .before .before .before .args .rows) (c .before .before .before .before .before .before .before .before .before .before .args .words) (c .before .before .before .before .before .before .before .before .before .before .pre .1) (c .before .before .before .before .before .before .before .before .turn-at .result) (c .before .before .before .before .before .before .before .before .turn-at .ensures) (c .before .before .before .before .before .before .count2 .given .0 .0) (c .before .before .before .before .before .before .count2 .given .1) (c .before .before .before .before .scan-members .result) (c .before .before .before .before .scan-members .ensures) (c .before .before .passed2 .given .0 .0) (c .before .before .passed2 .given .0 .1 .0) (c .before .before .passed2 .given .0 .1 .1 .0) (c .before .before .passed2 .given .1) (c .scan-body .result) (c .scan-body .ensures)
-
 abbrev scan-members-Inv-loop : scan-members-lts.InvT-loop
 scan-members-Inv-loop file version deep members from above before left₀ at₀ rows₀ words₀ left at rows words =
     Onward file version deep members from above before left at rows words
@@ -187,240 +67,6 @@ scan-members-Inv-loop file version deep members from above before left₀ at₀ 
 abbrev scan-members-μ-loop : scan-members-lts.MeasureT-loop
 scan-members-μ-loop file version deep members from above before left₀ at₀ rows₀ words₀ left at rows words =
     left
-
-scan-members-loop-holds : (t : ℕ) → scan-members-lts.Need-loop-holds (
-  scan-object-below t,
-  scan-object.Post,
-) (scan-members-at t) scan-members.Post scan-members-Inv-loop scan-members-μ-loop
-scan-members-loop-holds t c = members-begin (c .before .pre .1)
-
-scan-members-scan-object-requires : (t : ℕ) → scan-members-lts.Need-scan-object-requires (
-  scan-object-below t,
-  scan-object.Post,
-) (scan-members-at t) scan-members.Post scan-members-Inv-loop scan-members-μ-loop
-scan-members-scan-object-requires t c κs = (omega (arith, c .before .before .before .pre .0), c .before .loop .inv .placed)
-
-scan-members-enum-known-passed : (t : ℕ) → scan-members-lts.Need-enum-known-passed (
-  scan-object-below t,
-  scan-object.Post,
-) (scan-members-at t) scan-members.Post scan-members-Inv-loop scan-members-μ-loop
-scan-members-enum-known-passed t c = search needs
-
-scan-members-returns : (t : ℕ) → scan-members-lts.Need-returns (
-  scan-object-below t,
-  scan-object.Post,
-) (scan-members-at t) scan-members.Post scan-members-Inv-loop scan-members-μ-loop
-scan-members-returns t c = members-stop (c .before .before .before .before .before .loop .inv) (c .before .before .before .before .before .before .shared-slice-known .given) (c .before .before .before .before .loop-test .taken) (c .before .before .before .scan-object .ensures) (c .before .passed .given .1)
-
-scan-members-enum-known-passed-2 : (t : ℕ) → scan-members-lts.Need-enum-known-passed-2 (
-  scan-object-below t,
-  scan-object.Post,
-) (scan-members-at t) scan-members.Post scan-members-Inv-loop scan-members-μ-loop
-scan-members-enum-known-passed-2 t c = search needs
-
-scan-members-sub-left : (t : ℕ) → scan-members-lts.Need-sub-left (
-  scan-object-below t,
-  scan-object.Post,
-) (scan-members-at t) scan-members.Post scan-members-Inv-loop scan-members-μ-loop
-scan-members-sub-left t c = omega (arith, c .before .before .before .before .loop-test .taken)
-
-scan-members-loop-less : (t : ℕ) → scan-members-lts.Need-loop-less (
-  scan-object-below t,
-  scan-object.Post,
-) (scan-members-at t) scan-members.Post scan-members-Inv-loop scan-members-μ-loop
-scan-members-loop-less t c = omega (arith, c .before .before .before .before .loop-test .taken)
-
-scan-members-loop-again : (t : ℕ) → scan-members-lts.Need-loop-again (
-  scan-object-below t,
-  scan-object.Post,
-) (scan-members-at t) scan-members.Post scan-members-Inv-loop scan-members-μ-loop
-scan-members-loop-again t c = members-again (c .before .before .before .before .before .loop .inv) (c .before .before .before .before .before .before .shared-slice-known .given) (c .before .before .before .before .loop-test .taken) (c .before .before .before .scan-object .ensures) (c .before .passed2 .given .1)
-
-scan-members-returns-2 : (t : ℕ) → scan-members-lts.Need-returns-2 (
-  scan-object-below t,
-  scan-object.Post,
-) (scan-members-at t) scan-members.Post scan-members-Inv-loop scan-members-μ-loop
-scan-members-returns-2 t c = members-end (c .before .loop .inv) (λ h. omega (arith, c .loop-test .left))
-
-scan-object-turn-at-requires : (t : ℕ) → scan-object-lts.Need-turn-at-requires (
-  turn-at-reads.Asked,
-  turn-at-reads.Learnt,
-  scan-group-below t,
-  scan-group.Post,
-  leaf-start-reads.Asked,
-  leaf-start-reads.Learnt,
-  scan-body-reads.Asked,
-  scan-body-reads.Learnt,
-) (scan-object-at t) scan-object.Post
-scan-object-turn-at-requires t c κs = c .before .pre .1 .inside
-
-scan-object-enum-known-id : (t : ℕ) → scan-object-lts.Need-enum-known-id (
-  turn-at-reads.Asked,
-  turn-at-reads.Learnt,
-  scan-group-below t,
-  scan-group.Post,
-  leaf-start-reads.Asked,
-  leaf-start-reads.Learnt,
-  scan-body-reads.Asked,
-  scan-body-reads.Learnt,
-) (scan-object-at t) scan-object.Post
-scan-object-enum-known-id t c = search needs
-
-scan-object-enum-known-id-2 : (t : ℕ) → scan-object-lts.Need-enum-known-id-2 (
-  turn-at-reads.Asked,
-  turn-at-reads.Learnt,
-  scan-group-below t,
-  scan-group.Post,
-  leaf-start-reads.Asked,
-  leaf-start-reads.Learnt,
-  scan-body-reads.Asked,
-  scan-body-reads.Learnt,
-) (scan-object-at t) scan-object.Post
-scan-object-enum-known-id-2 t c = search needs
-
-scan-object-sub-scan-group : (t : ℕ) → scan-object-lts.Need-sub-scan-group (
-  turn-at-reads.Asked,
-  turn-at-reads.Learnt,
-  scan-group-below t,
-  scan-group.Post,
-  leaf-start-reads.Asked,
-  leaf-start-reads.Learnt,
-  scan-body-reads.Asked,
-  scan-body-reads.Learnt,
-) (scan-object-at t) scan-object.Post
-scan-object-sub-scan-group t c = omega (arith, scan-object-deeper (c .before .before .before .before .before .before .args .file .now) (c .before .before .before .before .before .shared-slice-known .given) (c .before .before .before .before .before .before .args .version) (c .before .before .before .before .before .before .args .deep) (c .before .before .before .before .before .before .args .at) (c .before .before .before .before .before .before .args .rows) (c .before .before .before .before .before .before .args .words) (c .before .before .before .before .before .before .pre .1) (c .before .before .before .before .turn-at .result) (c .before .before .before .before .turn-at .ensures) (c .before .before .id2 .given .1 ∙ ap Turn.Value (c .if1 .taken)))
-
-scan-object-add-scan-group : (t : ℕ) → scan-object-lts.Need-add-scan-group (
-  turn-at-reads.Asked,
-  turn-at-reads.Learnt,
-  scan-group-below t,
-  scan-group.Post,
-  leaf-start-reads.Asked,
-  leaf-start-reads.Learnt,
-  scan-body-reads.Asked,
-  scan-body-reads.Learnt,
-) (scan-object-at t) scan-object.Post
-scan-object-add-scan-group t c = let i = scan-object-id (c .before .before .before .before .before .before .args .file .now) (c .before .before .before .before .before .shared-slice-known .given) (c .before .before .before .before .before .before .args .version) (c .before .before .before .before .before .before .args .deep) (c .before .before .before .before .before .before .args .at) (c .before .before .before .before .before .before .args .rows) (c .before .before .before .before .before .before .args .words) (c .before .before .before .before .before .before .pre .1) (c .before .before .before .before .turn-at .result) (c .before .before .before .before .turn-at .ensures) (c .before .before .id2 .given .0 .0) (c .before .before .id2 .given .1) in omega (arith, i .1 .inside, i .1 .few-rows, i .1 .short)
-
-scan-object-add-scan-group-2 : (t : ℕ) → scan-object-lts.Need-add-scan-group-2 (
-  turn-at-reads.Asked,
-  turn-at-reads.Learnt,
-  scan-group-below t,
-  scan-group.Post,
-  leaf-start-reads.Asked,
-  leaf-start-reads.Learnt,
-  scan-body-reads.Asked,
-  scan-body-reads.Learnt,
-) (scan-object-at t) scan-object.Post
-scan-object-add-scan-group-2 t c = let i = scan-object-id (c .before .before .before .before .before .before .args .file .now) (c .before .before .before .before .before .shared-slice-known .given) (c .before .before .before .before .before .before .args .version) (c .before .before .before .before .before .before .args .deep) (c .before .before .before .before .before .before .args .at) (c .before .before .before .before .before .before .args .rows) (c .before .before .before .before .before .before .args .words) (c .before .before .before .before .before .before .pre .1) (c .before .before .before .before .turn-at .result) (c .before .before .before .before .turn-at .ensures) (c .before .before .id2 .given .0 .0) (c .before .before .id2 .given .1) in omega (arith, i .1 .inside, i .1 .few-rows, i .1 .short)
-
-scan-object-scan-group-requires : (t : ℕ) → scan-object-lts.Need-scan-group-requires (
-  turn-at-reads.Asked,
-  turn-at-reads.Learnt,
-  scan-group-below t,
-  scan-group.Post,
-  leaf-start-reads.Asked,
-  leaf-start-reads.Learnt,
-  scan-body-reads.Asked,
-  scan-body-reads.Learnt,
-) (scan-object-at t) scan-object.Post
-scan-object-scan-group-requires t c κs = (omega (arith, c .before .before .before .before .before .before .pre .0, scan-object-deeper (c .before .before .before .before .before .before .args .file .now) (c .before .before .before .before .before .shared-slice-known .given) (c .before .before .before .before .before .before .args .version) (c .before .before .before .before .before .before .args .deep) (c .before .before .before .before .before .before .args .at) (c .before .before .before .before .before .before .args .rows) (c .before .before .before .before .before .before .args .words) (c .before .before .before .before .before .before .pre .1) (c .before .before .before .before .turn-at .result) (c .before .before .before .before .turn-at .ensures) (c .before .before .id2 .given .1 ∙ ap Turn.Value (c .if1 .taken))), scan-object-id (c .before .before .before .before .before .before .args .file .now) (c .before .before .before .before .before .shared-slice-known .given) (c .before .before .before .before .before .before .args .version) (c .before .before .before .before .before .before .args .deep) (c .before .before .before .before .before .before .args .at) (c .before .before .before .before .before .before .args .rows) (c .before .before .before .before .before .before .args .words) (c .before .before .before .before .before .before .pre .1) (c .before .before .before .before .turn-at .result) (c .before .before .before .before .turn-at .ensures) (c .before .before .id2 .given .0 .0) (c .before .before .id2 .given .1) .1)
-
-scan-object-returns : (t : ℕ) → scan-object-lts.Need-returns (
-  turn-at-reads.Asked,
-  turn-at-reads.Learnt,
-  scan-group-below t,
-  scan-group.Post,
-  leaf-start-reads.Asked,
-  leaf-start-reads.Learnt,
-  scan-body-reads.Asked,
-  scan-body-reads.Learnt,
-) (scan-object-at t) scan-object.Post
-scan-object-returns t c = scan-object-group (c .before .before .before .before .before .before .before .args .file .now) (c .before .before .before .before .before .before .shared-slice-known .given) (c .before .before .before .before .before .before .before .args .version) (c .before .before .before .before .before .before .before .args .deep) (c .before .before .before .before .before .before .before .args .at) (c .before .before .before .before .before .before .before .args .rows) (c .before .before .before .before .before .before .before .args .words) (c .before .before .before .before .before .before .before .pre .1) (c .before .before .before .before .before .turn-at .result) (c .before .before .before .before .before .turn-at .ensures) (c .before .before .before .id2 .given .1 ∙ ap Turn.Value (c .before .if1 .taken)) (c .scan-group .result) (c .scan-group .ensures)
-
-scan-object-cast-leaf-start : (t : ℕ) → scan-object-lts.Need-cast-leaf-start (
-  turn-at-reads.Asked,
-  turn-at-reads.Learnt,
-  scan-group-below t,
-  scan-group.Post,
-  leaf-start-reads.Asked,
-  leaf-start-reads.Learnt,
-  scan-body-reads.Asked,
-  scan-body-reads.Learnt,
-) (scan-object-at t) scan-object.Post
-scan-object-cast-leaf-start t c = omega (arith, scan-object-id (c .before .before .before .before .before .before .args .file .now) (c .before .before .before .before .before .shared-slice-known .given) (c .before .before .before .before .before .before .args .version) (c .before .before .before .before .before .before .args .deep) (c .before .before .before .before .before .before .args .at) (c .before .before .before .before .before .before .args .rows) (c .before .before .before .before .before .before .args .words) (c .before .before .before .before .before .before .pre .1) (c .before .before .before .before .turn-at .result) (c .before .before .before .before .turn-at .ensures) (c .before .before .id2 .given .0 .0) (c .before .before .id2 .given .1) .0)
-
-scan-object-leaf-start-requires : (t : ℕ) → scan-object-lts.Need-leaf-start-requires (
-  turn-at-reads.Asked,
-  turn-at-reads.Learnt,
-  scan-group-below t,
-  scan-group.Post,
-  leaf-start-reads.Asked,
-  leaf-start-reads.Learnt,
-  scan-body-reads.Asked,
-  scan-body-reads.Learnt,
-) (scan-object-at t) scan-object.Post
-scan-object-leaf-start-requires t c κs = search needs
-
-scan-object-add-scan-body : (t : ℕ) → scan-object-lts.Need-add-scan-body (
-  turn-at-reads.Asked,
-  turn-at-reads.Learnt,
-  scan-group-below t,
-  scan-group.Post,
-  leaf-start-reads.Asked,
-  leaf-start-reads.Learnt,
-  scan-body-reads.Asked,
-  scan-body-reads.Learnt,
-) (scan-object-at t) scan-object.Post
-scan-object-add-scan-body t c = let i = scan-object-id (c .before .before .before .before .before .before .before .args .file .now) (c .before .before .before .before .before .before .shared-slice-known .given) (c .before .before .before .before .before .before .before .args .version) (c .before .before .before .before .before .before .before .args .deep) (c .before .before .before .before .before .before .before .args .at) (c .before .before .before .before .before .before .before .args .rows) (c .before .before .before .before .before .before .before .args .words) (c .before .before .before .before .before .before .before .pre .1) (c .before .before .before .before .before .turn-at .result) (c .before .before .before .before .before .turn-at .ensures) (c .before .before .before .id2 .given .0 .0) (c .before .before .before .id2 .given .1) in omega (arith, i .1 .inside, i .1 .few-rows, i .1 .short)
-
-scan-object-add-scan-body-2 : (t : ℕ) → scan-object-lts.Need-add-scan-body-2 (
-  turn-at-reads.Asked,
-  turn-at-reads.Learnt,
-  scan-group-below t,
-  scan-group.Post,
-  leaf-start-reads.Asked,
-  leaf-start-reads.Learnt,
-  scan-body-reads.Asked,
-  scan-body-reads.Learnt,
-) (scan-object-at t) scan-object.Post
-scan-object-add-scan-body-2 t c = let i = scan-object-id (c .before .before .before .before .before .before .before .args .file .now) (c .before .before .before .before .before .before .shared-slice-known .given) (c .before .before .before .before .before .before .before .args .version) (c .before .before .before .before .before .before .before .args .deep) (c .before .before .before .before .before .before .before .args .at) (c .before .before .before .before .before .before .before .args .rows) (c .before .before .before .before .before .before .before .args .words) (c .before .before .before .before .before .before .before .pre .1) (c .before .before .before .before .before .turn-at .result) (c .before .before .before .before .before .turn-at .ensures) (c .before .before .before .id2 .given .0 .0) (c .before .before .before .id2 .given .1) in omega (arith, i .1 .inside, i .1 .few-rows, i .1 .short)
-
-scan-object-scan-body-requires : (t : ℕ) → scan-object-lts.Need-scan-body-requires (
-  turn-at-reads.Asked,
-  turn-at-reads.Learnt,
-  scan-group-below t,
-  scan-group.Post,
-  leaf-start-reads.Asked,
-  leaf-start-reads.Learnt,
-  scan-body-reads.Asked,
-  scan-body-reads.Learnt,
-) (scan-object-at t) scan-object.Post
-scan-object-scan-body-requires t c κs = scan-object-id (c .before .before .before .before .before .before .before .args .file .now) (c .before .before .before .before .before .before .shared-slice-known .given) (c .before .before .before .before .before .before .before .args .version) (c .before .before .before .before .before .before .before .args .deep) (c .before .before .before .before .before .before .before .args .at) (c .before .before .before .before .before .before .before .args .rows) (c .before .before .before .before .before .before .before .args .words) (c .before .before .before .before .before .before .before .pre .1) (c .before .before .before .before .before .turn-at .result) (c .before .before .before .before .before .turn-at .ensures) (c .before .before .before .id2 .given .0 .0) (c .before .before .before .id2 .given .1) .2
-
-scan-object-returns-2 : (t : ℕ) → scan-object-lts.Need-returns-2 (
-  turn-at-reads.Asked,
-  turn-at-reads.Learnt,
-  scan-group-below t,
-  scan-group.Post,
-  leaf-start-reads.Asked,
-  leaf-start-reads.Learnt,
-  scan-body-reads.Asked,
-  scan-body-reads.Learnt,
-) (scan-object-at t) scan-object.Post
-scan-object-returns-2 t c = scan-object-fault (c .before .before .before .before .before .args .file .now) (c .before .before .before .before .shared-slice-known .given) (c .before .before .before .before .before .args .version) (c .before .before .before .before .before .args .deep) (c .before .before .before .before .before .args .at) (c .before .before .before .before .before .args .rows) (c .before .before .before .before .before .args .words) (c .before .before .before .before .before .pre .1) (c .before .before .before .turn-at .result) (c .before .before .before .turn-at .ensures) (c .before .id .given .0 .0) (c .before .id .given .1)
-
-scan-object-returns-3 : (t : ℕ) → scan-object-lts.Need-returns-3 (
-  turn-at-reads.Asked,
-  turn-at-reads.Learnt,
-  scan-group-below t,
-  scan-group.Post,
-  leaf-start-reads.Asked,
-  leaf-start-reads.Learnt,
-  scan-body-reads.Asked,
-  scan-body-reads.Learnt,
-) (scan-object-at t) scan-object.Post
-scan-object-returns-3 t c = scan-object-leaf (c .before .before .before .before .before .before .before .before .args .file .now) (c .before .before .before .before .before .before .before .shared-slice-known .given) (c .before .before .before .before .before .before .before .before .args .version) (c .before .before .before .before .before .before .before .before .args .deep) (c .before .before .before .before .before .before .before .before .args .at) (c .before .before .before .before .before .before .before .before .args .rows) (c .before .before .before .before .before .before .before .before .args .words) (c .before .before .before .before .before .before .before .before .pre .1) (c .before .before .before .before .before .before .turn-at .result) (c .before .before .before .before .before .before .turn-at .ensures) (c .before .before .before .before .id2 .given .0 .0) (c .before .before .before .before .id2 .given .1) (c .before .before .if1 .left) (c .scan-body .result) (rw (c .before .leaf-start .ensures) at (c .scan-body .ensures))
 
 pub +scan-group+scan-members+scan-object-spec : {M : Type 1} → statement M
 +scan-group+scan-members+scan-object-spec =
@@ -434,33 +80,33 @@ pub +scan-group+scan-members+scan-object-spec : {M : Type 1} → statement M
     )
     (scan-group-at t)
     scan-group.Post
-    (scan-group-turn-at-requires t)
-    (scan-group-enum-known-count t)
-    (scan-group-enum-known-count-2 t)
-    (scan-group-add-scan-members t)
-    (scan-group-add-scan-members-2 t)
-    (scan-group-scan-members-requires t)
-    (scan-group-enum-known-passed t)
-    (scan-group-enum-known-passed-2 t)
-    (scan-group-scan-body-requires t)
-    (scan-group-returns t)
-    (scan-group-returns-2 t)
-    (scan-group-returns-3 t))
+    (λ c κs. c .before .pre .1 .inside)
+    (λ c. search needs)
+    (λ c. search needs)
+    (λ c. let p = group-members (c .before .before .before .before .before .args .file .now) (c .before .before .before .before .shared-slice-known .given) (c .before .before .before .before .before .args .version) (c .before .before .before .before .before .args .deep) (c .before .before .before .before .before .args .at) (c .before .before .before .before .before .args .rows) (c .before .before .before .before .before .args .words) (c .before .before .before .before .before .pre .1) (c .before .before .before .turn-at .result) (c .before .before .before .turn-at .ensures) (c .before .count2 .given .0 .0) (c .before .count2 .given .1) in omega (arith, p .inside, p .few-words, p .short))
+    (λ c. let p = group-members (c .before .before .before .before .before .args .file .now) (c .before .before .before .before .shared-slice-known .given) (c .before .before .before .before .before .args .version) (c .before .before .before .before .before .args .deep) (c .before .before .before .before .before .args .at) (c .before .before .before .before .before .args .rows) (c .before .before .before .before .before .args .words) (c .before .before .before .before .before .pre .1) (c .before .before .before .turn-at .result) (c .before .before .before .turn-at .ensures) (c .before .count2 .given .0 .0) (c .before .count2 .given .1) in omega (arith, p .inside, p .few-words, p .short))
+    (λ c κs. (omega (arith, c .before .before .before .before .before .pre .0), group-members (c .before .before .before .before .before .args .file .now) (c .before .before .before .before .shared-slice-known .given) (c .before .before .before .before .before .args .version) (c .before .before .before .before .before .args .deep) (c .before .before .before .before .before .args .at) (c .before .before .before .before .before .args .rows) (c .before .before .before .before .before .args .words) (c .before .before .before .before .before .pre .1) (c .before .before .before .turn-at .result) (c .before .before .before .turn-at .ensures) (c .before .count2 .given .0 .0) (c .before .count2 .given .1)))
+    (λ c. search needs)
+    (λ c. search needs)
+    (λ c κs. let p = group-tail (c .before .before .before .before .before .before .before .before .before .args .file .now) (c .before .before .before .before .before .before .before .before .shared-slice-known .given) (c .before .before .before .before .before .before .before .before .before .args .version) (c .before .before .before .before .before .before .before .before .before .args .deep) (c .before .before .before .before .before .before .before .before .before .args .at) (c .before .before .before .before .before .before .before .before .before .args .rows) (c .before .before .before .before .before .before .before .before .before .args .words) (c .before .before .before .before .before .before .before .before .before .pre .1) (c .before .before .before .before .before .before .before .turn-at .result) (c .before .before .before .before .before .before .before .turn-at .ensures) (c .before .before .before .before .before .count2 .given .0 .0) (c .before .before .before .before .before .count2 .given .1) (c .before .before .before .scan-members .result) (c .before .before .before .scan-members .ensures) (c .before .passed2 .given .0 .0) (c .before .passed2 .given .0 .1 .0) (c .before .passed2 .given .0 .1 .1 .0) (c .before .passed2 .given .1) in record { short = p .short; inside = p .inside; few = p .few-words })
+    (λ c. group-fault (c .before .before .before .before .before .args .file .now) (c .before .before .before .before .shared-slice-known .given) (c .before .before .before .before .before .args .version) (c .before .before .before .before .before .args .deep) (c .before .before .before .before .before .args .at) (c .before .before .before .before .before .args .rows) (c .before .before .before .before .before .args .words) (c .before .before .before .before .before .pre .1) (c .before .before .before .turn-at .result) (c .before .before .before .turn-at .ensures) (c .before .count .given .0 .0) (c .before .count .given .1))
+    (λ c. group-stop (c .before .before .before .before .before .before .before .before .before .args .file .now) (c .before .before .before .before .before .before .before .before .shared-slice-known .given) (c .before .before .before .before .before .before .before .before .before .args .version) (c .before .before .before .before .before .before .before .before .before .args .deep) (c .before .before .before .before .before .before .before .before .before .args .at) (c .before .before .before .before .before .before .before .before .before .args .rows) (c .before .before .before .before .before .before .before .before .before .args .words) (c .before .before .before .before .before .before .before .before .before .pre .1) (c .before .before .before .before .before .before .before .turn-at .result) (c .before .before .before .before .before .before .before .turn-at .ensures) (c .before .before .before .before .before .count2 .given .0 .0) (c .before .before .before .before .before .count2 .given .1) (c .before .before .before .scan-members .result) (c .before .before .before .scan-members .ensures) (c .before .passed .given .0 .0) (c .before .passed .given .0 .1 .0) (c .before .passed .given .1))
+    (λ c. group-end (c .before .before .before .before .before .before .before .before .before .before .args .file .now) (c .before .before .before .before .before .before .before .before .before .shared-slice-known .given) (c .before .before .before .before .before .before .before .before .before .before .args .version) (c .before .before .before .before .before .before .before .before .before .before .args .deep) (c .before .before .before .before .before .before .before .before .before .before .args .at) (c .before .before .before .before .before .before .before .before .before .before .args .rows) (c .before .before .before .before .before .before .before .before .before .before .args .words) (c .before .before .before .before .before .before .before .before .before .before .pre .1) (c .before .before .before .before .before .before .before .before .turn-at .result) (c .before .before .before .before .before .before .before .before .turn-at .ensures) (c .before .before .before .before .before .before .count2 .given .0 .0) (c .before .before .before .before .before .before .count2 .given .1) (c .before .before .before .before .scan-members .result) (c .before .before .before .before .scan-members .ensures) (c .before .before .passed2 .given .0 .0) (c .before .before .passed2 .given .0 .1 .0) (c .before .before .passed2 .given .0 .1 .1 .0) (c .before .before .passed2 .given .1) (c .scan-body .result) (c .scan-body .ensures)))
     (λ t. scan-members-lts.spec
     (scan-object-below t, scan-object.Post)
     (scan-members-at t)
     scan-members.Post
     scan-members-Inv-loop
     scan-members-μ-loop
-    (scan-members-loop-holds t)
-    (scan-members-scan-object-requires t)
-    (scan-members-enum-known-passed t)
-    (scan-members-returns t)
-    (scan-members-enum-known-passed-2 t)
-    (scan-members-sub-left t)
-    (scan-members-loop-less t)
-    (scan-members-loop-again t)
-    (scan-members-returns-2 t))
+    (λ c. members-begin (c .before .pre .1))
+    (λ c κs. (omega (arith, c .before .before .before .pre .0), c .before .loop .inv .placed))
+    (λ c. search needs)
+    (λ c. members-stop (c .before .before .before .before .before .loop .inv) (c .before .before .before .before .before .before .shared-slice-known .given) (c .before .before .before .before .loop-test .taken) (c .before .before .before .scan-object .ensures) (c .before .passed .given .1))
+    (λ c. search needs)
+    (λ c. omega (arith, c .before .before .before .before .loop-test .taken))
+    (λ c. omega (arith, c .before .before .before .before .loop-test .taken))
+    (λ c. members-again (c .before .before .before .before .before .loop .inv) (c .before .before .before .before .before .before .shared-slice-known .given) (c .before .before .before .before .loop-test .taken) (c .before .before .before .scan-object .ensures) (c .before .passed2 .given .1))
+    (λ c. members-end (c .before .loop .inv) (λ h. omega (arith, c .loop-test .left))))
     λ t. scan-object-lts.spec (
       turn-at-reads.Asked,
       turn-at-reads.Learnt,
@@ -473,18 +119,18 @@ pub +scan-group+scan-members+scan-object-spec : {M : Type 1} → statement M
     )
     (scan-object-at t)
     scan-object.Post
-    (scan-object-turn-at-requires t)
-    (scan-object-enum-known-id t)
-    (scan-object-enum-known-id-2 t)
-    (scan-object-sub-scan-group t)
-    (scan-object-add-scan-group t)
-    (scan-object-add-scan-group-2 t)
-    (scan-object-scan-group-requires t)
-    (scan-object-returns t)
-    (scan-object-cast-leaf-start t)
-    (scan-object-leaf-start-requires t)
-    (scan-object-add-scan-body t)
-    (scan-object-add-scan-body-2 t)
-    (scan-object-scan-body-requires t)
-    (scan-object-returns-2 t)
-    (scan-object-returns-3 t)
+    (λ c κs. c .before .pre .1 .inside)
+    (λ c. search needs)
+    (λ c. search needs)
+    (λ c. omega (arith, scan-object-deeper (c .before .before .before .before .before .before .args .file .now) (c .before .before .before .before .before .shared-slice-known .given) (c .before .before .before .before .before .before .args .version) (c .before .before .before .before .before .before .args .deep) (c .before .before .before .before .before .before .args .at) (c .before .before .before .before .before .before .args .rows) (c .before .before .before .before .before .before .args .words) (c .before .before .before .before .before .before .pre .1) (c .before .before .before .before .turn-at .result) (c .before .before .before .before .turn-at .ensures) (c .before .before .id2 .given .1 ∙ ap Turn.Value (c .if1 .taken))))
+    (λ c. let i = scan-object-id (c .before .before .before .before .before .before .args .file .now) (c .before .before .before .before .before .shared-slice-known .given) (c .before .before .before .before .before .before .args .version) (c .before .before .before .before .before .before .args .deep) (c .before .before .before .before .before .before .args .at) (c .before .before .before .before .before .before .args .rows) (c .before .before .before .before .before .before .args .words) (c .before .before .before .before .before .before .pre .1) (c .before .before .before .before .turn-at .result) (c .before .before .before .before .turn-at .ensures) (c .before .before .id2 .given .0 .0) (c .before .before .id2 .given .1) in omega (arith, i .1 .inside, i .1 .few-rows, i .1 .short))
+    (λ c. let i = scan-object-id (c .before .before .before .before .before .before .args .file .now) (c .before .before .before .before .before .shared-slice-known .given) (c .before .before .before .before .before .before .args .version) (c .before .before .before .before .before .before .args .deep) (c .before .before .before .before .before .before .args .at) (c .before .before .before .before .before .before .args .rows) (c .before .before .before .before .before .before .args .words) (c .before .before .before .before .before .before .pre .1) (c .before .before .before .before .turn-at .result) (c .before .before .before .before .turn-at .ensures) (c .before .before .id2 .given .0 .0) (c .before .before .id2 .given .1) in omega (arith, i .1 .inside, i .1 .few-rows, i .1 .short))
+    (λ c κs. (omega (arith, c .before .before .before .before .before .before .pre .0, scan-object-deeper (c .before .before .before .before .before .before .args .file .now) (c .before .before .before .before .before .shared-slice-known .given) (c .before .before .before .before .before .before .args .version) (c .before .before .before .before .before .before .args .deep) (c .before .before .before .before .before .before .args .at) (c .before .before .before .before .before .before .args .rows) (c .before .before .before .before .before .before .args .words) (c .before .before .before .before .before .before .pre .1) (c .before .before .before .before .turn-at .result) (c .before .before .before .before .turn-at .ensures) (c .before .before .id2 .given .1 ∙ ap Turn.Value (c .if1 .taken))), scan-object-id (c .before .before .before .before .before .before .args .file .now) (c .before .before .before .before .before .shared-slice-known .given) (c .before .before .before .before .before .before .args .version) (c .before .before .before .before .before .before .args .deep) (c .before .before .before .before .before .before .args .at) (c .before .before .before .before .before .before .args .rows) (c .before .before .before .before .before .before .args .words) (c .before .before .before .before .before .before .pre .1) (c .before .before .before .before .turn-at .result) (c .before .before .before .before .turn-at .ensures) (c .before .before .id2 .given .0 .0) (c .before .before .id2 .given .1) .1))
+    (λ c. scan-object-group (c .before .before .before .before .before .before .before .args .file .now) (c .before .before .before .before .before .before .shared-slice-known .given) (c .before .before .before .before .before .before .before .args .version) (c .before .before .before .before .before .before .before .args .deep) (c .before .before .before .before .before .before .before .args .at) (c .before .before .before .before .before .before .before .args .rows) (c .before .before .before .before .before .before .before .args .words) (c .before .before .before .before .before .before .before .pre .1) (c .before .before .before .before .before .turn-at .result) (c .before .before .before .before .before .turn-at .ensures) (c .before .before .before .id2 .given .1 ∙ ap Turn.Value (c .before .if1 .taken)) (c .scan-group .result) (c .scan-group .ensures))
+    (λ c. omega (arith, scan-object-id (c .before .before .before .before .before .before .args .file .now) (c .before .before .before .before .before .shared-slice-known .given) (c .before .before .before .before .before .before .args .version) (c .before .before .before .before .before .before .args .deep) (c .before .before .before .before .before .before .args .at) (c .before .before .before .before .before .before .args .rows) (c .before .before .before .before .before .before .args .words) (c .before .before .before .before .before .before .pre .1) (c .before .before .before .before .turn-at .result) (c .before .before .before .before .turn-at .ensures) (c .before .before .id2 .given .0 .0) (c .before .before .id2 .given .1) .0))
+    (λ c κs. search needs)
+    (λ c. let i = scan-object-id (c .before .before .before .before .before .before .before .args .file .now) (c .before .before .before .before .before .before .shared-slice-known .given) (c .before .before .before .before .before .before .before .args .version) (c .before .before .before .before .before .before .before .args .deep) (c .before .before .before .before .before .before .before .args .at) (c .before .before .before .before .before .before .before .args .rows) (c .before .before .before .before .before .before .before .args .words) (c .before .before .before .before .before .before .before .pre .1) (c .before .before .before .before .before .turn-at .result) (c .before .before .before .before .before .turn-at .ensures) (c .before .before .before .id2 .given .0 .0) (c .before .before .before .id2 .given .1) in omega (arith, i .1 .inside, i .1 .few-rows, i .1 .short))
+    (λ c. let i = scan-object-id (c .before .before .before .before .before .before .before .args .file .now) (c .before .before .before .before .before .before .shared-slice-known .given) (c .before .before .before .before .before .before .before .args .version) (c .before .before .before .before .before .before .before .args .deep) (c .before .before .before .before .before .before .before .args .at) (c .before .before .before .before .before .before .before .args .rows) (c .before .before .before .before .before .before .before .args .words) (c .before .before .before .before .before .before .before .pre .1) (c .before .before .before .before .before .turn-at .result) (c .before .before .before .before .before .turn-at .ensures) (c .before .before .before .id2 .given .0 .0) (c .before .before .before .id2 .given .1) in omega (arith, i .1 .inside, i .1 .few-rows, i .1 .short))
+    (λ c κs. scan-object-id (c .before .before .before .before .before .before .before .args .file .now) (c .before .before .before .before .before .before .shared-slice-known .given) (c .before .before .before .before .before .before .before .args .version) (c .before .before .before .before .before .before .before .args .deep) (c .before .before .before .before .before .before .before .args .at) (c .before .before .before .before .before .before .before .args .rows) (c .before .before .before .before .before .before .before .args .words) (c .before .before .before .before .before .before .before .pre .1) (c .before .before .before .before .before .turn-at .result) (c .before .before .before .before .before .turn-at .ensures) (c .before .before .before .id2 .given .0 .0) (c .before .before .before .id2 .given .1) .2)
+    (λ c. scan-object-fault (c .before .before .before .before .before .args .file .now) (c .before .before .before .before .shared-slice-known .given) (c .before .before .before .before .before .args .version) (c .before .before .before .before .before .args .deep) (c .before .before .before .before .before .args .at) (c .before .before .before .before .before .args .rows) (c .before .before .before .before .before .args .words) (c .before .before .before .before .before .pre .1) (c .before .before .before .turn-at .result) (c .before .before .before .turn-at .ensures) (c .before .id .given .0 .0) (c .before .id .given .1))
+    (λ c. scan-object-leaf (c .before .before .before .before .before .before .before .before .args .file .now) (c .before .before .before .before .before .before .before .shared-slice-known .given) (c .before .before .before .before .before .before .before .before .args .version) (c .before .before .before .before .before .before .before .before .args .deep) (c .before .before .before .before .before .before .before .before .args .at) (c .before .before .before .before .before .before .before .before .args .rows) (c .before .before .before .before .before .before .before .before .args .words) (c .before .before .before .before .before .before .before .before .pre .1) (c .before .before .before .before .before .before .turn-at .result) (c .before .before .before .before .before .before .turn-at .ensures) (c .before .before .before .before .id2 .given .0 .0) (c .before .before .before .before .id2 .given .1) (c .before .before .if1 .left) (c .scan-body .result) (rw (c .before .leaf-start .ensures) at (c .scan-body .ensures)))
