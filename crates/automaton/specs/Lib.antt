@@ -1,4 +1,3 @@
-pub mod Tests
 pub mod Wants
 pub mod Afters
 pub mod Denote

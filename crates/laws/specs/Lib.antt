@@ -11,3 +11,6 @@ pub mod DrawingLaws
 pub mod OrderLaws
 pub mod EntryLaws
 pub mod AnswerLaws
+pub mod ParseLaws
+pub mod FileParseLaws
+pub mod ReadingLaws

@@ -26,11 +26,10 @@ use Rattle.drawing.specs.ObjectLayout.{object, groupBody}
 use Rattle.drawing.specs.Settings.{Settings, settings}
 use Rattle.drawing.specs.Drawing.{Drawing, outerGroup, Reading, drawing, refusal, reading, drawingOf, file as fileLayout}
 use Rattle.laws.specs.CodecLaws.{bytes-sensible}
-use Rattle.scanner.specs.ParseLaws.{Behind, behind}
-use Rattle.scanner.specs.FileScans.{fromSettings, fromVersion}
-use Rattle.scanner.specs.FileParseLaws.{outer-parse, file-parse}
+use Rattle.laws.specs.ParseLaws.{Behind, behind}
+use Rattle.laws.specs.FileParseLaws.{outer-parse, file-parse, fromSettings, fromVersion}
 use Rattle.scanner.specs.FileScanLaws.{version-in}
-use Rattle.store.specs.StepLaws.{Read, read-found}
+use Rattle.laws.specs.ReadingLaws.{Read, read-found}
 
 module _ (file : List ℕ) (known : (i : ℕ) → Val.Fits w8 (getD file i 0)) (d : Drawing) where
   -- A drawing put together from its parts.

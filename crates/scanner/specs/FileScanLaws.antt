@@ -41,8 +41,8 @@ use Rattle.scanner.specs.Scans.{Within, scanOf, EndsWithin, ScannedBody}
 use Rattle.scanner.specs.ScanLaws.{place-of}
 use Rattle.scanner.specs.ObjectScans.{Placed, counted, Ended, ScannedGroup}
 use Rattle.scanner.specs.ObjectScanLaws.{Passed, passed, Stopped, stopped, scan-layout}
-use Rattle.scanner.specs.FileScans.{fileScan, outerScan, fromSettings, fromVersion, ScannedOuter, ScannedSettings, ScannedVersion, ScannedFile}
-use Rattle.scanner.specs.FileParseLaws.{outer-parse, file-parse}
+use Rattle.scanner.specs.FileScans.{fileScan, outerScan, ScannedOuter, ScannedSettings, ScannedVersion, ScannedFile}
+use Rattle.laws.specs.FileParseLaws.{outer-parse, file-parse, fromSettings, fromVersion}
 
 -- ---- the outer group
 

@@ -14,6 +14,7 @@ use Rattle.drawing.specs.Settings.{settings}
 use Rattle.drawing.specs.Drawing.{Drawing, outerGroup, Reading, drawing, refusal, reading, drawingOf}
 use Rattle.drawing.specs.Table.{rowsAll, bodies}
 use Rattle.drawing.specs.Answers.{rowsOf, wordCount}
+use Rattle.laws.specs.FileParseLaws.{fromSettings, fromVersion}
 use Rattle.scanner.specs.declared.Scan.{Scan}
 use Rattle.scanner.specs.declared.Scan.the-variants as Scan
 
@@ -27,18 +28,6 @@ abbrev pub outerScan : (total version words : ℕ) → Outcome (Objects × Strin
 outerScan total v words (found (os, d) []) = Scan.Done total (suc (rowsAll os)) (words + length (bodies (group os d) v))
 outerScan total v words (found t (b ∷ rest)) = Scan.Refused 13 (total - length (b ∷ rest))
 outerScan total v words (refused n place) = Scan.Refused n (total - length place)
-
--- A drawing of this version, from its settings on.
-abbrev pub fromSettings : ℕ → List ℕ → Outcome Drawing
-fromSettings v us =
-    andThen (parse bytes (settings v) us) (λ s rest.
-    andThen (parse bytes (outerGroup v) rest) (λ (members, description) rest₂.
-    found (record { version = v; settings = s; members = members; description = description }) rest₂))
-
--- A drawing from its version's length on.
-abbrev pub fromVersion : List ℕ → Outcome Drawing
-fromVersion us =
-    andThen (bytes .read versionLength us) (λ three rest. andThen (bytes .read versionChars rest) (λ c rest₂. fromSettings (c - versionZero) rest₂))
 
 -- The counts are small: a row and a word take at least a byte each.
 abbrev pub Few : Scan → Type 0

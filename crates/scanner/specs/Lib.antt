@@ -3,10 +3,8 @@ pub mod RunLaws
 pub mod Scans
 pub mod ScanLaws
 pub mod ObjectScans
-pub mod ParseLaws
 pub mod BodyLaws
 pub mod ObjectScanLaws
 pub mod MemberLaws
 pub mod FileScans
-pub mod FileParseLaws
 pub mod FileScanLaws

@@ -33,7 +33,7 @@ use Rattle.scanner.specs.Runs.{inWords}
 use Rattle.scanner.specs.Scans.{Within, scanOf, ScannedBody}
 use Rattle.scanner.specs.ScanLaws.{place-of}
 use Rattle.scanner.specs.ObjectScans.{Placed, counted, Ended, Scanned, ScannedObject, ScannedMembers, ScannedGroup}
-use Rattle.scanner.specs.ParseLaws.{group-parse}
+use Rattle.laws.specs.ParseLaws.{group-parse}
 use Rattle.scanner.specs.ObjectScanLaws.{Passed, passed, Stopped, stopped, scan-layout, ended-body, ended-later}
 
 -- ---- members

@@ -46,7 +46,7 @@ use Rattle.scanner.specs.Runs.{inWords}
 use Rattle.scanner.specs.Scans.{Within, scanOf, scanFrom, EndsWithin, ScannedBody}
 use Rattle.scanner.specs.ScanLaws.{place-of}
 use Rattle.scanner.specs.ObjectScans.{Placed, counted, Ended, Scanned, ScannedObject, ScannedMembers, ScannedGroup}
-use Rattle.scanner.specs.ParseLaws.{Behind, behind, leaf-id, group-id, idKind, object-refused, object-leaf, object-group, group-parse}
+use Rattle.laws.specs.ParseLaws.{Behind, behind, leaf-id, group-id, idKind, object-refused, object-leaf, object-group, group-parse}
 
 sub-one : (n : ℕ) → suc n - 1 ≡ n
 sub-one n = omega arith

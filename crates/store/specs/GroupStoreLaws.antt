@@ -33,13 +33,13 @@ use Rattle.automaton.specs.declared.Expect.the-variants as Expect
 use Rattle.automaton.specs.Denote.{den}
 use Rattle.automaton.specs.Unfolds.{end-state}
 use Rattle.scanner.specs.Runs.{inWords}
-use Rattle.scanner.specs.ParseLaws.{Behind, behind, group-parse}
+use Rattle.laws.specs.ParseLaws.{Behind, behind, group-parse}
 use Rattle.store.specs.declared.Cursor.{Cursor}
 use Rattle.store.specs.declared.Reach.{Reach}
 use Rattle.store.specs.Splice as Body
 use Rattle.store.specs.Splice.{splice, Finish, finish, Fits, StoredBody}
 use Rattle.store.specs.SpliceLaws.{splice-behind, splice-before, length-splice}
-use Rattle.store.specs.StepLaws.{Read, read-found}
+use Rattle.laws.specs.ReadingLaws.{Read, read-found}
 use Rattle.store.specs.ObjectStores.{Table, tabled, RoomFor, Storable, Stored, groupAt, membersAt, objectRows, memberRows, StorableObject, StorableMembers, StoredObject, StoredMembers}
 use Rattle.store.specs.MemberStoreLaws.{same-table}
 

@@ -38,13 +38,13 @@ use Rattle.automaton.specs.Afters.{leafStart}
 use Rattle.automaton.specs.Denote.{_⟫_, done, den}
 use Rattle.automaton.specs.Unfolds.{leaf-state}
 use Rattle.scanner.specs.Runs.{inWords}
-use Rattle.scanner.specs.ParseLaws.{leaf-id, group-id, idKind, object-refused, object-leaf, object-group}
+use Rattle.laws.specs.ParseLaws.{leaf-id, group-id, idKind, object-refused, object-leaf, object-group}
 use Rattle.store.specs.declared.Cursor.{Cursor}
 use Rattle.store.specs.declared.Reach.{Reach}
 use Rattle.store.specs.Splice as Body
 use Rattle.store.specs.Splice.{splice, Finish, finish, Fits, StoredBody}
 use Rattle.store.specs.SpliceLaws.{length-splice}
-use Rattle.store.specs.StepLaws.{Read, read-found}
+use Rattle.laws.specs.ReadingLaws.{Read, read-found}
 use Rattle.store.specs.Rows.{kindByLetter, leaf-kind}
 use Rattle.store.specs.ObjectStores.{Table, tabled, RoomFor, Storable, Stored, objectAt, groupAt, objectRows, StorableObject, StoredObject}
 

@@ -1,4 +1,3 @@
-pub mod Tests
 pub mod Splice
 pub mod SpliceLaws
 pub mod RunStoreLaws

@@ -17,7 +17,7 @@ use Rattle.drawing.specs.ObjectLayout.{object}
 use Rattle.drawing.specs.Table.{rowWidth, rows, rowsAll, bodies, bodiesAll, contents, contentsAll}
 use Rattle.laws.specs.OrderLaws.{contents-length, contents-length-all}
 use Rattle.scanner.specs.ScanLaws.{place-of}
-use Rattle.scanner.specs.ParseLaws.{Behind, behind}
+use Rattle.laws.specs.ParseLaws.{Behind, behind}
 use Rattle.store.specs.declared.Reach.{Reach}
 use Rattle.store.specs.Splice.{splice}
 use Rattle.store.specs.SpliceLaws.{splice-nil, splice-behind}

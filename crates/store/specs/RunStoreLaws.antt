@@ -1,9 +1,12 @@
 -- A run of fields, stored one after another: what is left always comes to the same.
 use mathlib.Core.Path.{_≡_, refl, sym, ap, _∙_}
+use mathlib.Core.Bool.{Bool, true, _||_}
 use Prim.Native.Nat.{ℕ, zero, suc, _+_, _-_, _*_, _^_, _<_, _≤_}
 use native.Mathlib.Nat as Nat
-use native.Mathlib.Omega.{arith}
+use native.Mathlib.Omega.{arith, not-le}
 use mathlib.Core.List.{List, [], _∷_, _++_}
+use lib.Dec.{eqb}
+use borrow.Author.Tests.{ne-eqb, eqb-true}
 use lib.ListN.{length, take, drop, length-append}
 use lib.Seq.{drop-drop}
 use Rattle.format.specs.Digits.{number, digits}
@@ -16,6 +19,18 @@ use Rattle.store.specs.SpliceLaws.{splice-nil, splice-behind, length-spl
 -- The words of a run of fields of w bytes, each kept in u words.
 abbrev pub runWords : List ℕ → (from w u count : ℕ) → List ℕ
 runWords file from w u count = recoded 256 w (2 ^ 32) u count (drop from file)
+
+-- The sizes of the fields that come in runs.
+abbrev pub isRun : ℕ → Bool
+isRun size = eqb size 2 || (eqb size 4 || eqb size 8)
+
+pub run-of-eight : (size : ℕ) → isRun size ≡ true → (size ≡ 2 → ⊥) → (size ≡ 4 → ⊥) → size ≡ 8
+run-of-eight size e two four = eqb-true size 8 (simp ne-eqb at e)
+
+pub run-small : (size : ℕ) → isRun size ≡ true → size ≤ 8
+run-small size e =
+    let few : size < 9 = not-le 9 size (λ h. let big : size ≡ 8 = run-of-eight size e (λ x. omega arith) (λ x. omega arith) in omega arith) in
+    omega arith
 
 -- What a run needs: its bytes, and room for its words.
 pub record Room (file : List ℕ) (at w u count to room : ℕ) : Type 0 where

@@ -26,6 +26,7 @@ use Rattle.fields.specs.declared.Kind as Code
 use Rattle.fields.specs.Kinds.{kindOf}
 use Rattle.fields.specs.KindLaws.{readable}
 use Rattle.fields.specs.Turn.{isSize}
+use Rattle.laws.specs.ReadingLaws.{read-found}
 use Rattle.automaton.specs.declared.Expect.{Expect}
 use Rattle.automaton.specs.declared.want.Want.the-variants as Want
 use Rattle.automaton.specs.Wants.{wantOf}
@@ -122,34 +123,6 @@ module _ (file : List ℕ) (known : (i : ℕ) → Val.Fits w8 (getD file i 0)) (
       rw (leads, place-is, behind-is, one) (moved t (is ∙ ap (λ n. splice to (runWords file at w u n) s) one))
 
 -- ---- a field
-
--- What reading a field says, where a value is found.
-pub record Read (k : Kind) (us : List ℕ) (x : ℕ) (rest : List ℕ) : Type 0 where
-  pub there : size (k .shape) ≤ length us
-  pub value-is : x ≡ number 256 (take (size (k .shape)) us)
-  pub rest-is : rest ≡ drop (size (k .shape)) us
-
-pub read-found : (k : Kind) (us : List ℕ) (x : ℕ) (rest : List ℕ) → bytes .read k us ≡ found x rest → Read k us x rest
-read-found k us x rest e = by (splitAt (size (k .shape)) us) (splitAt-says (size (k .shape)) us) e
-  where
-    judged-value : (n m : ℕ) (front back : List ℕ) → conclude (judged n m) us back ≡ found x rest → (x ≡ n) × (rest ≡ back)
-    judged-value n zero front back e = (cc, cc)
-    judged-value n (suc m) front back e = let z : _≡_ {A = ℕ} 0 1 = cc in absurd (omega arith)
-
-    meant : (t : Bool) (n : ℕ) (front back : List ℕ) → conclude (verdict byteFields k (cond t (some n) none)) us back ≡ found x rest → (x ≡ n) × (rest ≡ back)
-    meant true n front back e = judged-value n (k .fault n) front back e
-    meant false n front back e = let z : _≡_ {A = ℕ} 0 1 = cc in absurd (omega arith)
-
-    by : (o : Option (List ℕ × List ℕ)) → SplitSays (size (k .shape)) us o → readCut byteFields k us o ≡ found x rest → Read k us x rest
-    by none says e = let z : _≡_ {A = ℕ} 0 1 = cc in absurd (omega arith)
-    by (some (front, back)) says e =
-        let m = meant (ltb (number 256 front) (values (k .shape))) (number 256 front) front back e in
-        let sum : length us ≡ length front + length back = ap length (says .0) ∙ length-append front back in
-        record {
-          there = omega (arith, says .1);
-          value-is = m .0 ∙ ap (number 256) (sym (ap (take (size (k .shape))) (says .0) ∙ take-at front back (size (k .shape)) (says .1)));
-          rest-is = m .1 ∙ sym (ap (drop (size (k .shape))) (says .0) ∙ drop-at front back (size (k .shape)) (says .1));
-        }
 
 module _ (file : List ℕ) (v : ℕ) (e : Expect) (at to : ℕ) (s : List ℕ) (k : Code.Kind) (storable : Storable file v e at (length s) to) (wants : wantOf v e ≡ Want.One k) where
   -- The field is there, and its words fit.

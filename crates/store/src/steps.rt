@@ -15,12 +15,15 @@ use fields::Kind;
 use fields::size;
 use fields::turn::value_at;
 ghost use mathlib.Core.Path.{_≡_};
+ghost use mathlib.Core.Bool.{true};
 ghost use Prim.Native.Nat.{_+_, _/_, _^_, _≤_, _<_};
 ghost use lib.ListN.{length};
 ghost use Rattle.format.specs.Digits.{digits};
 ghost use Rattle.automaton.specs.declared.want.Want.the-variants as Want;
 ghost use Rattle.automaton.specs.Wants.{wantOf};
+ghost use Rattle.scanner.specs.Runs.{Runs};
 ghost use Rattle.store.specs.Splice.{splice, Storable, Moved};
+ghost use Rattle.store.specs.RunStoreLaws.{Room, runWords, isRun};
 
 // A field of up to four bytes takes a word, a wider one two.
 fn store_value(words: &mut [u32], to: usize, wide: usize, value: u64)
@@ -57,69 +60,42 @@ fn move_field(
     }
 }
 
-fn move_floats(
-    file: &[u8],
-    version: u32,
-    state: Expect,
-    at: usize,
-    words: &mut [u32],
-    to: usize,
-    left: u64,
-) -> Move
-    requires { ⌜ Storable (now file) version state at (length (now words)) to × (wantOf version state ≡ Want.Floats left) ⌝ }
-    ensures { λ r. ⌜ Moved (now (file .entry)) version state at to (now (words .entry)) (now (words .exit)) r ⌝ }
+// A run of fields of 2, 4 or 8 bytes, each size with a tight loop of its own.
+fn store_run(file: &[u8], from: usize, size: usize, count: usize, words: &mut [u32], to: usize)
+    requires { ⌜ Room (now file) from size ((size + 3) / 4) count to (length (now words)) × (isRun size ≡ true) ⌝ }
+    ensures { λ r. ⌜ now (words .exit) ≡ splice to (runWords (now (file .entry)) from size ((size + 3) / 4) count) (now (words .entry)) ⌝ }
 {
-    let count = left as usize + 1;
-    store_floats(file, at, count, words, to);
-    let next = after(version, state, 0);
-    Move::More {
-        state: next,
-        at: at + count * 4,
-        to: to + count,
+    if size == 2 {
+        store_chars(file, from, count, words, to);
+        return;
     }
+    if size == 4 {
+        store_floats(file, from, count, words, to);
+        return;
+    }
+    store_doubles(file, from, count, words, to);
 }
 
-fn move_doubles(
+fn move_run(
     file: &[u8],
     version: u32,
     state: Expect,
     at: usize,
     words: &mut [u32],
     to: usize,
+    size: usize,
     left: u64,
 ) -> Move
-    requires { ⌜ Storable (now file) version state at (length (now words)) to × (wantOf version state ≡ Want.Doubles left) ⌝ }
+    requires { ⌜ Storable (now file) version state at (length (now words)) to × Runs version state size ((size + 3) / 4) left × (isRun size ≡ true) ⌝ }
     ensures { λ r. ⌜ Moved (now (file .entry)) version state at to (now (words .entry)) (now (words .exit)) r ⌝ }
 {
     let count = left as usize + 1;
-    store_doubles(file, at, count, words, to);
+    store_run(file, at, size, count, words, to);
     let next = after(version, state, 0);
     Move::More {
         state: next,
-        at: at + count * 8,
-        to: to + count * 2,
-    }
-}
-
-fn move_chars(
-    file: &[u8],
-    version: u32,
-    state: Expect,
-    at: usize,
-    words: &mut [u32],
-    to: usize,
-    left: u64,
-) -> Move
-    requires { ⌜ Storable (now file) version state at (length (now words)) to × (wantOf version state ≡ Want.Chars left) ⌝ }
-    ensures { λ r. ⌜ Moved (now (file .entry)) version state at to (now (words .entry)) (now (words .exit)) r ⌝ }
-{
-    let count = left as usize + 1;
-    store_chars(file, at, count, words, to);
-    let next = after(version, state, 0);
-    Move::More {
-        state: next,
-        at: at + count * 2,
-        to: to + count,
+        at: at + count * size,
+        to: to + count * ((size + 3) / 4),
     }
 }
 
@@ -158,9 +134,9 @@ pub fn move_on(
     let want = wants(version, state);
     match want {
         Want::One(kind) => move_field(file, version, state, at, words, to, kind),
-        Want::Floats(left) => move_floats(file, version, state, at, words, to, left),
-        Want::Doubles(left) => move_doubles(file, version, state, at, words, to, left),
-        Want::Chars(left) => move_chars(file, version, state, at, words, to, left),
+        Want::Floats(left) => move_run(file, version, state, at, words, to, 4, left),
+        Want::Doubles(left) => move_run(file, version, state, at, words, to, 8, left),
+        Want::Chars(left) => move_run(file, version, state, at, words, to, 2, left),
         Want::Transformation => move_transformation(file, version, state, at, words, to),
         Want::Nothing => Move::End,
     }

@@ -1,6 +1,6 @@
 -- `automaton::after::after_bitmap` meets its contract, arm by arm.
 use borrow.Author.Needs.{needs}
-use Rattle.automaton.specs.Tests.{tests}
+use Rattle.fields.specs.Tests.{tests}
 use Rattle.automaton.proofs.after.after_bitmap.Statement.{statement}
 use Rattle.automaton.proofs.after.after_bitmap.Tie as tie
 

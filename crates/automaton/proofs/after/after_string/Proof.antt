@@ -1,6 +1,6 @@
 -- `automaton::after::after_string` meets its contract, arm by arm.
 use borrow.Author.Needs.{needs}
-use Rattle.automaton.specs.Tests.{tests}
+use Rattle.fields.specs.Tests.{tests}
 use Rattle.automaton.proofs.after.after_string.Statement.{statement}
 use Rattle.automaton.proofs.after.after_string.Tie as tie
 

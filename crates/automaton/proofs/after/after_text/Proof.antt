@@ -1,6 +1,6 @@
 -- `automaton::after::after_text` meets its contract, arm by arm.
 use borrow.Author.Needs.{needs}
-use Rattle.automaton.specs.Tests.{tests}
+use Rattle.fields.specs.Tests.{tests}
 use Rattle.automaton.proofs.after.after_text.Statement.{statement}
 use Rattle.automaton.proofs.after.after_text.Tie as tie
 

@@ -1,6 +1,6 @@
 -- `automaton::after::behind_paper` meets its contract, arm by arm.
 use borrow.Author.Needs.{needs}
-use Rattle.automaton.specs.Tests.{tests}
+use Rattle.fields.specs.Tests.{tests}
 use Rattle.automaton.proofs.after.behind_paper.Statement.{statement}
 use Rattle.automaton.proofs.after.behind_paper.Tie as tie
 

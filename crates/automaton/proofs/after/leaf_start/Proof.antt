@@ -1,6 +1,6 @@
 -- `automaton::after::leaf_start` meets its contract, arm by arm.
 use borrow.Author.Needs.{needs}
-use Rattle.automaton.specs.Tests.{tests}
+use Rattle.fields.specs.Tests.{tests}
 use Rattle.automaton.proofs.after.leaf_start.Statement.{statement}
 use Rattle.automaton.proofs.after.leaf_start.Tie as tie
 

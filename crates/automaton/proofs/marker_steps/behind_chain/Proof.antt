@@ -1,6 +1,6 @@
 -- `automaton::marker_steps::behind_chain` meets its contract, arm by arm.
 use borrow.Author.Needs.{needs}
-use Rattle.automaton.specs.Tests.{tests}
+use Rattle.fields.specs.Tests.{tests}
 use Rattle.automaton.proofs.marker_steps.behind_chain.Statement.{statement}
 use Rattle.automaton.proofs.marker_steps.behind_chain.Tie as tie
 

@@ -1,6 +1,6 @@
 -- `automaton::outline_steps::after_count` meets its contract, arm by arm.
 use borrow.Author.Needs.{needs}
-use Rattle.automaton.specs.Tests.{tests}
+use Rattle.fields.specs.Tests.{tests}
 use Rattle.automaton.proofs.outline_steps.after_count.Statement.{statement}
 use Rattle.automaton.proofs.outline_steps.after_count.Tie as tie
 

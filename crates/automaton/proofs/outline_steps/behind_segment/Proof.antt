@@ -1,6 +1,6 @@
 -- `automaton::outline_steps::behind_segment` meets its contract, arm by arm.
 use borrow.Author.Needs.{needs}
-use Rattle.automaton.specs.Tests.{tests}
+use Rattle.fields.specs.Tests.{tests}
 use Rattle.automaton.proofs.outline_steps.behind_segment.Statement.{statement}
 use Rattle.automaton.proofs.outline_steps.behind_segment.Tie as tie
 

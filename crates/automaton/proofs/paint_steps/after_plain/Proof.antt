@@ -1,6 +1,6 @@
 -- `automaton::paint_steps::after_plain` meets its contract, arm by arm.
 use borrow.Author.Needs.{needs}
-use Rattle.automaton.specs.Tests.{tests}
+use Rattle.fields.specs.Tests.{tests}
 use Rattle.automaton.proofs.paint_steps.after_plain.Statement.{statement}
 use Rattle.automaton.proofs.paint_steps.after_plain.Tie as tie
 

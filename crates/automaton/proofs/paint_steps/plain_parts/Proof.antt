@@ -1,6 +1,6 @@
 -- `automaton::paint_steps::plain_parts` meets its contract, arm by arm.
 use borrow.Author.Needs.{needs}
-use Rattle.automaton.specs.Tests.{tests}
+use Rattle.fields.specs.Tests.{tests}
 use Rattle.automaton.proofs.paint_steps.plain_parts.Statement.{statement}
 use Rattle.automaton.proofs.paint_steps.plain_parts.Tie as tie
 

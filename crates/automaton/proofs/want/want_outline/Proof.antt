@@ -1,6 +1,6 @@
 -- `automaton::want::want_outline` meets its contract, arm by arm.
 use borrow.Author.Needs.{needs}
-use Rattle.automaton.specs.Tests.{tests}
+use Rattle.fields.specs.Tests.{tests}
 use Rattle.automaton.proofs.want.want_outline.Statement.{statement}
 use Rattle.automaton.proofs.want.want_outline.Tie as tie
 

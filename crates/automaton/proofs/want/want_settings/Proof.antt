@@ -1,6 +1,6 @@
 -- `automaton::want::want_settings` meets its contract, arm by arm.
 use borrow.Author.Needs.{needs}
-use Rattle.automaton.specs.Tests.{tests}
+use Rattle.fields.specs.Tests.{tests}
 use Rattle.automaton.proofs.want.want_settings.Statement.{statement}
 use Rattle.automaton.proofs.want.want_settings.Tie as tie
 

@@ -17,7 +17,18 @@ use Rattle.drawing.specs.Object.{Objects}
 use Rattle.drawing.specs.ObjectLayout.{object, groupBody}
 use Rattle.drawing.specs.Settings.{Settings, settings}
 use Rattle.drawing.specs.Drawing.{Drawing, version, outerGroup, drawingFrom, file}
-use Rattle.scanner.specs.FileScans.{fromSettings, fromVersion}
+
+-- A drawing of this version, from its settings on.
+abbrev pub fromSettings : ℕ → List ℕ → Outcome Drawing
+fromSettings v us =
+    andThen (parse bytes (settings v) us) (λ s rest.
+    andThen (parse bytes (outerGroup v) rest) (λ (members, description) rest₂.
+    found (record { version = v; settings = s; members = members; description = description }) rest₂))
+
+-- A drawing from its version's length on.
+abbrev pub fromVersion : List ℕ → Outcome Drawing
+fromVersion us =
+    andThen (bytes .read versionLength us) (λ three rest. andThen (bytes .read versionChars rest) (λ c rest₂. fromSettings (c - versionZero) rest₂))
 
 parse-constant : {A : Type 0} (k : Kind) (x : ℕ) (only : (v : ℕ) → Allowed k v → v ≡ x) (f : Layout A) (us : List ℕ)
     → parse bytes (constant k x only f) us ≡ andThen (bytes .read k us) (λ v rest. parse bytes f rest)
