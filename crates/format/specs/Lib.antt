@@ -17,7 +17,12 @@ pub mod AlternativeLaws
 pub mod Choice
 pub mod LayoutLaws
 pub mod FixedLayoutLaws
+pub mod LeafLaws
+pub mod Pass
 pub mod Translate
 pub mod TranslateLaws
-pub mod LeafLaws
+pub mod LiteralLaws
+pub mod SpliceLaws
+pub mod PassLaws
+pub mod RunLaws
 pub mod SignedExamples

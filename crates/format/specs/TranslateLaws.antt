@@ -49,7 +49,7 @@ prefixed-append ws more (refused n place) = refl
 -- ---- a layout's script, and what comes behind it
 
 -- A script, and then one that goes on from what the first ended with.
-abbrev followed : {A R : Type 0} → Script A → (A → Script R) → Script R
+abbrev pub followed : {A R : Type 0} → Script A → (A → Script R) → Script R
 followed (end a) then = then a
 followed (ask k next) then = ask k (λ v. followed (next v) then)
 
@@ -61,7 +61,7 @@ followed-many more this that next h (suc n) s then =
     h s (λ a. scriptMany this next n (next s a) (λ as′. then (a ∷ as′)))
     ∙ ap (that s) (fun-ext (λ a. followed-many more this that next h n (next s a) (λ as′. then (a ∷ as′))))
 
-followed-script : {A B R : Type 0} {P : A → Type 0} (f : Format A P) (then : A → Script B) (more : B → Script R)
+pub followed-script : {A B R : Type 0} {P : A → Type 0} (f : Format A P) (then : A → Script B) (more : B → Script R)
     → followed (script f then) more ≡ script f (λ a. followed (then a) more)
 followed-script (known x) then more = refl
 followed-script (one k) then more = refl
@@ -134,7 +134,7 @@ parse-threaded C n each next s us = parse-both C (each s) (λ a. threaded n each
 -- ---- translating
 
 -- Fields that bring a layout's script to its end are those of the value that it ends with.
-ended : {A : Type 0} {P : A → Type 0} (f : Format A P) (fs : List Field) (a : A) → Ends (script f (λ a. end a)) fs a → fs ≡ fields f a
+pub ended : {A : Type 0} {P : A → Type 0} (f : Format A P) (fs : List Field) (a : A) → Ends (script f (λ a. end a)) fs a → fs ≡ fields f a
 ended {A} {P} f fs a e = alone (t .behind) (t .split) (t .ends)
   where
     t : Taken P (λ a. fields f a) (λ a. end a) fs a

@@ -1,0 +1,30 @@
+use native.Mathlib.Omega.{arith}
+use mathlib.Core.Path.{refl, ap, _∙_}
+use Rattle.format.specs.Kind as K
+use Rattle.passes.specs.CarryLaws.{ranged-asked, any-ranged}
+use Rattle.drawing.specs.Fields as F
+use borrow.Author.Needs.{needs}
+use Rattle.kinds.proofs.floats.double.Statement.{statement}
+use Rattle.kinds.proofs.floats.double.Tie as tie
+use Rattle.kinds.proofs.floats.double.Reads as reads
+use Rattle.kinds.proofs.floats.double.Lts as lts
+use Rattle.passes.proofs.field.field.Reads as field-reads
+
+-- src/floats.rt:37:5
+field-requires : tie.Need-field-requires
+field-requires c κs = search needs
+
+-- src/floats.rt:26:1
+same-length : tie.Need-same-length
+same-length c = search needs
+
+-- src/floats.rt:26:1
+same-length-2 : tie.Need-same-length-2
+same-length-2 c = search needs
+
+-- src/floats.rt:26:1
+returns : tie.Need-returns
+returns c = ranged-asked (F.double) (any-ranged K.double 8 18446744073709551615 6 refl refl refl) (omega arith) (c .before .before .before .before .field .ensures)
+
+pub double-spec : {M : Type 1} → statement M
+double-spec = tie.close (tie.spec field-requires same-length same-length-2 returns)

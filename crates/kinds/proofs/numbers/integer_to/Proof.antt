@@ -1,0 +1,31 @@
+use Rattle.kinds.specs.RangeLaws.{integer-ranged}
+use native.Mathlib.Omega.{arith}
+use mathlib.Core.Path.{refl, ap, _∙_}
+use Rattle.format.specs.Kind as K
+use Rattle.passes.specs.CarryLaws.{ranged-asked}
+use Rattle.drawing.specs.Fields as F
+use borrow.Author.Needs.{needs}
+use Rattle.kinds.proofs.numbers.integer_to.Statement.{statement}
+use Rattle.kinds.proofs.numbers.integer_to.Tie as tie
+use Rattle.kinds.proofs.numbers.integer_to.Reads as reads
+use Rattle.kinds.proofs.numbers.integer_to.Lts as lts
+use Rattle.passes.proofs.field.field.Reads as field-reads
+
+-- src/numbers.rt:72:5
+field-requires : tie.Need-field-requires
+field-requires c κs = (c .before .before .before .before .before .before .pre .0, (refl, omega (arith, c .before .before .before .before .before .before .pre .1), omega arith))
+
+-- src/numbers.rt:59:1
+same-length : tie.Need-same-length
+same-length c = search needs
+
+-- src/numbers.rt:59:1
+same-length-2 : tie.Need-same-length-2
+same-length-2 c = search needs
+
+-- src/numbers.rt:59:1
+returns : tie.Need-returns
+returns c = ranged-asked (F.integerIn 0 (c .before .before .before .before .before .before .before .before .before .before .before .args .high)) (integer-ranged (c .before .before .before .before .before .before .before .before .before .before .before .args .high) (c .before .before .before .before .before .before .before .before .before .before .before .pre .1)) (omega arith) (c .before .before .before .before .field .ensures)
+
+pub integer-to-spec : {M : Type 1} → statement M
+integer-to-spec = tie.close (tie.spec field-requires same-length same-length-2 returns)

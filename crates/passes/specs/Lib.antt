@@ -1,0 +1,16 @@
+pub mod Routes
+pub mod Sizes
+pub mod TargetLaws
+pub mod Passes
+pub mod Takes
+pub mod TakeLaws
+pub mod Ranged
+pub mod FieldLaws
+pub mod Carries
+pub mod CarryLaws
+pub mod LoopLaws
+pub mod RunCarryLaws
+pub mod StoreLaws
+pub mod Runs
+pub mod FitLaws
+pub mod RunTakeLaws
