@@ -6,7 +6,7 @@ use mathlib.Core.List.{List}
 use lib.ListN.{length}
 use Rattle.format.specs.Kind.{Kind}
 use Rattle.format.specs.Script.{Script, ask}
-use Rattle.format.specs.Format.{Format, script}
+use Rattle.format.specs.Format.{Format, one, script}
 use Rattle.format.specs.Layout.{Layout}
 use Rattle.passes.specs.declared.Pass.{Pass}
 use Rattle.passes.specs.declared.Took.{Took}
@@ -27,11 +27,15 @@ Carried these t us m m′ p r = Came these (λ K. K) t us m m′ p r
 pub record Laid {A : Type 0} {P : A → Type 0} (f : Format A P) (t : Bool) (us m m′ : List ℕ) (p r : Pass) : Type 0 where
   pub carried : Carried (λ K. script f (λ a. K)) t us m m′ p r
 
--- A pass over one field of a kind, which goes on by its value.
-pub record Asked (k : Kind) (t : Bool) (us m m′ : List ℕ) (p : Pass) (r : Took) : Type 0 where
-  pub runs : (next : ℕ → Script (Unit {0})) → behind t us m p (ask k next) ≡ behind t us m′ (r .pass) (next (r .value))
-  pub ready : Ready (length us) (r .pass)
+-- Over the fields of a layout whose value is then known: what comes behind goes on by it.
+pub record Valued {A : Type 0} {P : A → Type 0} (f : Format A P) (a : A) (t : Bool) (us m m′ : List ℕ) (p r : Pass) : Type 0 where
+  pub runs : (next : A → Script (Unit {0})) → behind t us m p (script f next) ≡ behind t us m′ r (next a)
+  pub ready : Ready (length us) r
   pub same-length : length m′ ≡ length m
+
+-- Over one field of a kind.
+abbrev pub Asked : Kind → Bool → (us m m′ : List ℕ) → Pass → Took → Type 0
+Asked k t us m m′ p q = Valued (one k) (q .value) t us m m′ p (q .pass)
 
 -- The same for a file and a table's words as sources and as targets, of which the way takes one each.
 abbrev pub Begins : (reverse : Bool) → (file words : List ℕ) → Pass → Type 0

@@ -8,6 +8,7 @@ pub mod Ranged
 pub mod FieldLaws
 pub mod Carries
 pub mod CarryLaws
+pub mod LayoutLaws
 pub mod LoopLaws
 pub mod RunCarryLaws
 pub mod StoreLaws

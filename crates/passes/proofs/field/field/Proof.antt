@@ -1,4 +1,4 @@
-use Rattle.passes.specs.TakeLaws.{width-bounds}
+use Rattle.passes.specs.TakeLaws.{width-bounds, takes-gone, takes-cut, takes-outside, takes-value}
 use native.Mathlib.Omega.{arith}
 use lib.ListN.{length}
 use Prim.Native.Nat.{_+_, _-_, _<_, _≤_}
@@ -8,7 +8,6 @@ use mathlib.Core.Path.{_≡_, sym, ap, subst, _∙_}
 use Rattle.passes.specs.Takes.{There}
 use Rattle.passes.specs.Routes.{widthOf, source}
 use Rattle.passes.specs.TargetLaws.{field-size, field-sized}
-use Rattle.passes.specs.TakeLaws.{takes-gone, takes-cut, takes-outside, takes-value}
 use borrow.Author.Needs.{needs}
 use Rattle.passes.proofs.field.field.Statement.{statement}
 use Rattle.passes.proofs.field.field.Tie as tie

@@ -5,8 +5,7 @@ use Prim.Native.Nat.{_^_}
 use Rattle.format.specs.Pass.{splice}
 use Rattle.format.specs.Digits.{digits}
 use Rattle.format.specs.LeafLaws.{field-one}
-use Rattle.passes.specs.StoreLaws.{small-left}
-use Rattle.passes.specs.StoreLaws.{Storing, storing-begins, storing-again, storing-ends}
+use Rattle.passes.specs.StoreLaws.{small-left, Storing, storing-begins, storing-again, storing-ends}
 use Rattle.passes.proofs.stores.write_chars.Statement.{statement}
 use Rattle.passes.proofs.stores.write_chars.Tie as tie
 use Rattle.passes.proofs.stores.write_chars.Reads as reads

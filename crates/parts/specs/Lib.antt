@@ -1,0 +1,6 @@
+pub mod PaintLaws
+pub mod MarkerLaws
+pub mod DashLaws
+pub mod Segments
+pub mod SegmentLaws
+pub mod Doubles

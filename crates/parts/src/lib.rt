@@ -1,0 +1,22 @@
+// The layout in code: one function for each thing of the format, which passes over its fields from a file's bytes into a table's words, or from a
+// table's words into a file's bytes.
+pub mod bitmap;
+pub mod line_style;
+pub mod marker;
+pub mod object;
+pub mod paint;
+pub mod path;
+pub mod segment;
+pub mod settings;
+pub mod string;
+pub mod text;
+pub mod transformation;
+
+use passes::Pass;
+
+// Where a segment ended, and how far the pass has come behind it.
+pub struct Ended {
+    pub x: u64,
+    pub y: u64,
+    pub pass: Pass,
+}
