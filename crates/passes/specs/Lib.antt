@@ -9,6 +9,7 @@ pub mod FieldLaws
 pub mod Carries
 pub mod CarryLaws
 pub mod LayoutLaws
+pub mod Landings
 pub mod LoopLaws
 pub mod RunCarryLaws
 pub mod StoreLaws
