@@ -1,23 +1,32 @@
 -- What a pass over a layout comes to, by what the layout parses to in the source.
-use mathlib.Core.Path.{_≡_, refl, sym, ap, _∙_}
+use mathlib.Core.Path.{_≡_, refl, sym, ap, _∙_, subst}
 use mathlib.Core.Bool.{Bool, true, false, cond}
 use Prim.Native.Nat.{ℕ, zero, suc, _+_, _-_, _≤_}
 use native.Mathlib.Omega.{arith}
 use mathlib.Core.List.{List}
+use lib.Dec.{eqb}
 use lib.ListN.{length, drop}
+use borrow.Author.Tests.{eqb-true, eq-eqb}
 use Rattle.format.specs.Digits.{Below}
-use Rattle.format.specs.Codec.{Outcome, found, refused}
+use Rattle.format.specs.Codec.{Outcome, found, refused, Explained}
 use Rattle.format.specs.FixedCodec.{Fixed, fixed, spellFixed}
-use Rattle.format.specs.FixedCodecLaws.{Sensible}
+use Rattle.format.specs.FixedCodecLaws.{Sensible, fixed-lawful}
 use Rattle.format.specs.Format.{fields}
-use Rattle.format.specs.Layout.{Layout, encode, parse}
-use Rattle.format.specs.Pass.{Route, Passed, through, stopped, pass, splice, _⟫_, done}
+use Rattle.format.specs.Layout.{Layout, field, encode, parse}
+use Rattle.format.specs.Kind.{Kind, byte}
+use Rattle.format.specs.Script.{Script, ask}
+use Rattle.format.specs.LeafLaws.{below-drop}
+use Rattle.format.specs.TranslateLaws.{parse-field}
+use Rattle.format.specs.Pass.{Route, Passed, onward, put, through, stopped, pass, splice, _⟫_, done}
 use Rattle.format.specs.PassLaws.{puts, pass-found, pass-refused, puts-fit}
 use Rattle.laws.specs.CodecLaws.{bytes-sensible, words-sensible}
 use Rattle.passes.specs.declared.Pass.{Pass}
+use Rattle.passes.specs.declared.Took.{Took}
 use Rattle.passes.specs.Routes.{route, baseOf}
 use Rattle.passes.specs.Passes.{behind, resumed, Ready}
-use Rattle.passes.specs.Carries.{Laid}
+use Rattle.passes.specs.Carries.{Asked, Laid}
+use Rattle.passes.specs.LayoutLaws.{field-laid}
+use Rattle.passes.specs.FieldLaws.{pass-goes}
 
 -- The units that a value has in the target.
 abbrev pub encoded : {A : Type 0} → Bool → Layout A → A → List ℕ
@@ -73,3 +82,55 @@ lands {A} L t {us} {m} {m′} {p} {r} b going inside laid = by (parse (fixed (ro
         found-at a rest (r .number) refl (sym (pass-found (route t) (sensible t) us (below t us b) L done (p .at) (p .to) m inside a rest e) ∙ starts)
     by (refused n place) e =
         refused-at t n place (r .number) refl (sym (pass-refused (route t) (sensible t) us (below t us b) L done (p .at) (p .to) m inside n place e) ∙ starts)
+
+-- ---- a field, and its value
+
+-- What a field's pass comes to, by what is read of it: its value too.
+abbrev pub Takes : Kind → Bool → (us m m′ : List ℕ) → Pass → Took → Outcome ℕ → Type 0
+Takes k t us m m′ p q (found v rest) = (q .value ≡ v) × Landed (field k) t us m m′ p (q .pass) v rest
+Takes k t us m m′ p q (refused n place) = Failed t us (q .pass) n place
+
+-- A kind of which no value is allowed.
+abbrev never : Kind
+never = record { shape = byte; fault = λ v. 1 }
+
+pub takes : (k : Kind) (t : Bool) {us m m′ : List ℕ} {p : Pass} {q : Took} → Below (baseOf t) us → p .number ≡ 0 → p .at ≤ length us → Asked k t us m m′ p q
+    → Takes k t us m m′ p q (fixed (route t .source) .read k (drop (p .at) us))
+takes k t {us} {m} {m′} {p} {q} b going inside asked =
+    by (fixed (route t .source) .read k (drop (p .at) us)) refl (subst (Lands (field k) t us m m′ p (q .pass)) (parse-field (fixed (route t .source)) k (drop (p .at) us)) (lands (field k) t b going inside (field-laid asked)))
+  where
+    -- Goes on with this value only.
+    only : ℕ → ℕ → Script (Unit {0})
+    only v w = cond (eqb w v) done (ask never (λ x. done))
+
+    refuses : (at to : ℕ) (l : List ℕ) (o : Outcome ℕ) → Explained (fixed (route t .source)) never (drop at us) o → (x y : ℕ) (l′ : List ℕ)
+        → through x y l′ ≡ onward (route t) at o (λ v. pass (route t) us done (at + route t .source .width byte) (to + route t .target .width byte) (put to (spellFixed (route t .target) never v) l)) → ⊥
+    refuses at to l (found v rest) explained x y l′ e = let z : _≡_ {A = ℕ} 1 0 = explained .3 .faultless in omega arith
+    refuses at to l (refused n place) explained x y l′ e = stops t e
+      where
+        stops : (t : Bool) → through x y l′ ≡ route t .refusal n at → ⊥
+        stops true e = let z : _≡_ {A = ℕ} 0 1 = cc in omega arith
+        stops false e = let z : _≡_ {A = ℕ} 0 1 = cc in omega arith
+
+    same : (v : ℕ) (rest : List ℕ) → fixed (route t .source) .read k (drop (p .at) us) ≡ found v rest → q .pass .number ≡ 0 → q .value ≡ v
+    same v rest reads on = told (eqb (q .value) v) refl
+      where
+        goes : pass (route t) us (only v v) (p .at + route t .source .width (k .shape)) (p .to + route t .target .width (k .shape)) (put (p .to) (spellFixed (route t .target) k v) m)
+            ≡ pass (route t) us (only v (q .value)) (q .pass .at) (q .pass .to) m′
+        goes = sym (pass-goes us m p k (only v) t v rest going reads) ∙ asked .runs (only v) ∙ ap (λ n. resumed (route t) us n (q .pass .at) (q .pass .to) m′ (only v (q .value))) on
+
+        passes : through (p .at + route t .source .width (k .shape)) (p .to + route t .target .width (k .shape)) (put (p .to) (spellFixed (route t .target) k v) m)
+            ≡ pass (route t) us (only v (q .value)) (q .pass .at) (q .pass .to) m′
+        passes = ap (λ s. pass (route t) us (cond s done (ask never (λ x. done))) (p .at + route t .source .width (k .shape)) (p .to + route t .target .width (k .shape)) (put (p .to) (spellFixed (route t .target) k v) m)) (sym (eq-eqb v v refl)) ∙ goes
+
+        told : (s : Bool) → eqb (q .value) v ≡ s → q .value ≡ v
+        told true e = eqb-true (q .value) v e
+        told false e =
+            absurd (refuses (q .pass .at) (q .pass .to) m′ (fixed (route t .source) .read never (drop (q .pass .at) us))
+            (fixed-lawful (route t .source) (sensible t) .explains never (drop (q .pass .at) us) (below-drop (route t .source .base) (q .pass .at) us (below t us b)))
+            (p .at + route t .source .width (k .shape)) (p .to + route t .target .width (k .shape)) (put (p .to) (spellFixed (route t .target) k v) m)
+            (passes ∙ ap (λ s. pass (route t) us (cond s done (ask never (λ x. done))) (q .pass .at) (q .pass .to) m′) e))
+
+    by : (o : Outcome ℕ) → fixed (route t .source) .read k (drop (p .at) us) ≡ o → Lands (field k) t us m m′ p (q .pass) o → Takes k t us m m′ p q o
+    by (found v rest) reads landed = (same v rest reads (landed .on), landed)
+    by (refused n place) reads failed = failed
