@@ -1,6 +1,7 @@
 -- The laws of the drawing layer: that the definitions hang together and make the customer's demands.
 pub mod CodecLaws
 pub mod SizeLaws
+pub mod ObjectBytes
 pub mod ObjectGood
 pub mod FileGood
 pub mod EqualLaws

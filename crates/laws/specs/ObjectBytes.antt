@@ -1,0 +1,84 @@
+-- The bytes of objects and of a file, by their parts: what stands behind what.
+use mathlib.Core.Path.{_≡_, refl, sym, ap, _∙_}
+use Prim.Native.Nat.{ℕ, zero, suc, _+_, _-_}
+use Prim.Native.Char.{code}
+use mathlib.Core.List.{List, [], _∷_, _++_, append-assoc}
+use lib.ListN.{length}
+use Rattle.format.specs.Digits.{digits}
+use Rattle.format.specs.Kind.{Field}
+use Rattle.format.specs.Codec.{spellAll}
+use Rattle.format.specs.FixedCodec.{spellFixed}
+use Rattle.format.specs.Format.{fields}
+use Rattle.format.specs.Layout.{Layout, repeat, encode}
+use Rattle.drawing.specs.Codecs.{byteFields}
+use Rattle.drawing.specs.Limits.{depthLimit}
+use Rattle.drawing.specs.Fields.{jdr, versionZero}
+use Rattle.drawing.specs.String.{String}
+use Rattle.drawing.specs.Settings.{settings}
+use Rattle.drawing.specs.Object.{Leaf, path, text, bitmap, Object, leaf, group, Objects, listOf}
+use Rattle.drawing.specs.ObjectId.{leafLetter}
+use Rattle.drawing.specs.LeafLayout.{leafBody, objectEnd}
+use Rattle.drawing.specs.ObjectLayout.{object, groupBody}
+use Rattle.drawing.specs.Drawing.{Drawing, fileOf}
+
+-- The bytes of a value, as `wordsOf` are its words.
+abbrev pub bytesOf : {A : Type 0} → Layout A → A → List ℕ
+bytesOf L a = encode (spellFixed byteFields) L a
+
+abbrev spelled : List Field → List ℕ
+spelled fs = spellAll (spellFixed byteFields) fs
+
+spelled-append : (fs gs : List Field) → spelled (fs ++ gs) ≡ spelled fs ++ spelled gs
+spelled-append [] gs = refl
+spelled-append (f ∷ fs) gs =
+    let here = spellFixed byteFields (f .kind) (f .value) in
+    ap (λ l. here ++ l) (spelled-append fs gs) ∙ sym (append-assoc here (spelled fs) (spelled gs))
+
+-- ---- repeated parts: how many a layout says there are is not in its bytes
+
+pub many-bytes : {A : Type 0} (L : Layout A) (m n : ℕ) (a : A) (as′ : List A) → bytesOf (repeat m L) (a ∷ as′) ≡ bytesOf L a ++ bytesOf (repeat n L) as′
+many-bytes L m n a as′ = spelled-append (fields (L .format) a) (fields (repeat n L .format) as′)
+
+pub many-append : {A : Type 0} (L : Layout A) (m n k : ℕ) (as′ bs : List A)
+    → bytesOf (repeat m L) (as′ ++ bs) ≡ bytesOf (repeat n L) as′ ++ bytesOf (repeat k L) bs
+many-append L m n k [] bs = refl
+many-append L m n k (a ∷ as′) bs =
+    many-bytes L m m a (as′ ++ bs)
+    ∙ ap (λ l. bytesOf L a ++ l) (many-append L m n k as′ bs)
+    ∙ sym (append-assoc (bytesOf L a) (bytesOf (repeat n L) as′) (bytesOf (repeat k L) bs))
+    ∙ ap (λ l. l ++ bytesOf (repeat k L) bs) (sym (many-bytes L n n a as′))
+
+-- ---- objects
+
+pub leaf-bytes : (v deep : ℕ) (l : Leaf) (d : String) → bytesOf (object v deep) (leaf l d) ≡ digits 256 2 (leafLetter l) ++ bytesOf (leafBody v (leafLetter l)) (l, d)
+leaf-bytes v zero l d = refl
+leaf-bytes v (suc deep) (path x) d = refl
+leaf-bytes v (suc deep) (text x) d = refl
+leaf-bytes v (suc deep) (bitmap x) d = refl
+
+module _ (v deep n : ℕ) (os : Objects) (d : String) where
+  -- Behind a group's id: its count, its members, and its own end.
+  pub group-body-bytes : bytesOf (groupBody v (object v deep)) (os, d) ≡ digits 256 4 (length (listOf os)) ++ (bytesOf (repeat n (object v deep)) (listOf os) ++ bytesOf (objectEnd v) d)
+  group-body-bytes =
+      ap (λ l. digits 256 4 (length (listOf os)) ++ l) (spelled-append (fields (repeat n (object v deep) .format) (listOf os)) (fields (objectEnd v .format) d))
+
+  pub group-bytes : bytesOf (object v (suc deep)) (group os d)
+      ≡ digits 256 2 (code "G") ++ (digits 256 4 (length (listOf os)) ++ (bytesOf (repeat n (object v deep)) (listOf os) ++ bytesOf (objectEnd v) d))
+  group-bytes = ap (λ l. digits 256 2 (code "G") ++ l) group-body-bytes
+
+-- ---- a file
+
+pub file-bytes : (d : Drawing)
+    → fileOf d
+    ≡ digits 256 6 jdr
+    ++ (digits 256 4 3
+    ++ (digits 256 6 (versionZero + d .version)
+    ++ (bytesOf (settings (d .version)) (d .settings)
+    ++ (digits 256 2 (code "G") ++ bytesOf (groupBody (d .version) (object (d .version) (depthLimit - 1))) (d .members, d .description)))))
+file-bytes d =
+    ap (λ l. digits 256 6 jdr ++ (digits 256 4 3 ++ (digits 256 6 (versionZero + d .version) ++ l)))
+    (spelled-append (fields (settings (d .version) .format) (d .settings)) _)
+
+-- The settings begin at byte 16.
+pub head-bytes-length : (v : ℕ) → length (digits 256 6 jdr ++ (digits 256 4 3 ++ digits 256 6 (versionZero + v))) ≡ 16
+head-bytes-length v = refl
