@@ -11,6 +11,7 @@ pub mod WalkSound
 pub mod TableLaws
 pub mod DrawingLaws
 pub mod OrderLaws
+pub mod CountLaws
 pub mod EntryLaws
 pub mod AnswerLaws
 pub mod ParseLaws

@@ -15,7 +15,7 @@ use Rattle.drawing.specs.Limits.{depthLimit}
 use Rattle.drawing.specs.Fields.{jdr, versionZero}
 use Rattle.drawing.specs.String.{String}
 use Rattle.drawing.specs.Settings.{settings}
-use Rattle.drawing.specs.Object.{Leaf, path, text, bitmap, Object, leaf, group, Objects, listOf}
+use Rattle.drawing.specs.Object.{Leaf, path, text, bitmap, leaf, group, Objects, listOf}
 use Rattle.drawing.specs.ObjectId.{leafLetter}
 use Rattle.drawing.specs.LeafLayout.{leafBody, objectEnd}
 use Rattle.drawing.specs.ObjectLayout.{object, groupBody}
@@ -56,7 +56,7 @@ leaf-bytes v (suc deep) (path x) d = refl
 leaf-bytes v (suc deep) (text x) d = refl
 leaf-bytes v (suc deep) (bitmap x) d = refl
 
-module _ (v deep n : ℕ) (os : Objects) (d : String) where
+module _ (v deep : ℕ) (os : Objects) (d : String) (n : ℕ) where
   -- Behind a group's id: its count, its members, and its own end.
   pub group-body-bytes : bytesOf (groupBody v (object v deep)) (os, d) ≡ digits 256 4 (length (listOf os)) ++ (bytesOf (repeat n (object v deep)) (listOf os) ++ bytesOf (objectEnd v) d)
   group-body-bytes =
