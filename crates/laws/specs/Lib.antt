@@ -12,6 +12,7 @@ pub mod TableLaws
 pub mod DrawingLaws
 pub mod OrderLaws
 pub mod CountLaws
+pub mod TableFileLaws
 pub mod EntryLaws
 pub mod AnswerLaws
 pub mod ParseLaws
