@@ -107,7 +107,7 @@ group-holds v deep parent each p q row h e b =
 -- ---- leaves
 
 -- A kind in range and its letter tell one another.
-kind-letter : (k : ℕ) → 2 ≤ k → k ≤ 4 → (v : ℕ) → isLeaf v (letterOf k) ≡ true
+pub kind-letter : (k : ℕ) → 2 ≤ k → k ≤ 4 → (v : ℕ) → isLeaf v (letterOf k) ≡ true
 kind-letter zero h g v = absurd (omega arith)
 kind-letter (suc zero) h g v = absurd (omega arith)
 kind-letter (suc (suc zero)) h g v = refl

@@ -1,5 +1,9 @@
 // Walking over a table: its rows and its bodies side by side, each field judged, and the file's bytes written where they fit. A walk into no memory
 // only checks the table.
+pub mod bodies;
+pub mod objects;
+pub mod rows;
+
 use passes::Pass;
 
 // The next row, and how far the pass over the bodies has come.

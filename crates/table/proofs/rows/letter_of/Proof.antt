@@ -1,0 +1,22 @@
+use borrow.Author.Tests.{eq-eqb, ne-eqb}
+use native.Mathlib.Omega.{arith}
+use mathlib.Core.Path.{refl}
+use Rattle.table.proofs.rows.letter_of.Statement.{statement}
+use Rattle.table.proofs.rows.letter_of.Tie as tie
+use Rattle.table.proofs.rows.letter_of.Reads as reads
+use Rattle.table.proofs.rows.letter_of.Lts as lts
+
+-- src/rows.rt:40:9
+returns : tie.Need-returns
+returns c = (rw (eq-eqb (c .before .args .kind) 2 (c .if1 .taken)) refl, omega arith)
+
+-- src/rows.rt:43:9
+returns-2 : tie.Need-returns-2
+returns-2 c = (rw (ne-eqb (c .before .before .args .kind) 2 (c .before .if1 .left), eq-eqb (c .before .before .args .kind) 3 (c .if2 .taken)) refl, omega arith)
+
+-- src/rows.rt:36:1
+returns-3 : tie.Need-returns-3
+returns-3 c = (rw (ne-eqb (c .before .before .args .kind) 2 (c .before .if1 .left), ne-eqb (c .before .before .args .kind) 3 (c .if2 .left)) refl, omega arith)
+
+pub letter-of-spec : {M : Type 1} → statement M
+letter-of-spec = tie.close (tie.spec returns returns-2 returns-3)
