@@ -5,5 +5,6 @@ pub mod RowLaws
 pub mod BodyLaws
 pub mod LeafWalkLaws
 pub mod MemberWalkLaws
+pub mod OwnWalkLaws
 pub mod GroupWalkLaws
 pub mod ObjectWalkLaws

@@ -4,14 +4,16 @@ use mathlib.Core.Bool.{true}
 use Prim.Native.Nat.{ℕ, _+_, _*_, _≤_}
 use Prim.Native.Char.{code}
 use mathlib.Core.List.{List, _++_}
+use lib.Dec.{eqb}
 use lib.ListN.{length, take, drop}
 use Rattle.format.specs.Digits.{digits}
 use Rattle.format.specs.Kind.{Kind}
 use Rattle.format.specs.Layout.{repeat}
 use Rattle.format.specs.Pass.{splice}
 use Rattle.drawing.specs.Limits.{lengthLimit}
-use Rattle.drawing.specs.Table.{rowWidth}
-use Rattle.drawing.specs.TableDrawing.{Place, Walk, met, lost, walkLeaf, walkObject, walkMany, walkGroup}
+use Rattle.drawing.specs.LeafLayout.{objectEnd}
+use Rattle.drawing.specs.Table.{groupKind, groupOwn, rowWidth}
+use Rattle.drawing.specs.TableDrawing.{Place, Walk, met, lost, onward, provided, body, walkLeaf, walkObject, walkMany, walkGroup}
 use Rattle.drawing.specs.String.{String}
 use Rattle.drawing.specs.Object.{Objects}
 use Rattle.drawing.specs.ObjectLayout.{object, groupBody}
@@ -75,6 +77,13 @@ WalksObject v deep parent row cs ws m m′ p r = Walks (bytesOf (object v deep))
 abbrev pub WalksMany : (version deep parent count row : ℕ) → (cs ws m m′ : List ℕ) → Pass → Walked → Type 0
 WalksMany v deep parent n row cs ws m m′ p r =
     Walks (λ os. bytesOf (repeat n (object v deep)) os) (walkMany n (λ q. walkObject v deep parent q) (placeAt cs ws row (p .at))) cs ws m m′ p r
+
+-- A group's own body, whose count has to be this number, and whose row stands before the next one.
+abbrev pub walkOwn : (version parent members : ℕ) → (words : List ℕ) → Place → Walk String
+walkOwn v parent n words q = onward (body (groupOwn v) groupKind parent words q) (λ own r. provided (eqb (own .0) n) (met (own .1) r))
+
+abbrev pub WalksOwn : (version parent members row next : ℕ) → (cs ws m m′ : List ℕ) → Pass → Walked → Type 0
+WalksOwn v parent n row next cs ws m m′ p r = Walks (bytesOf (objectEnd v)) (walkOwn v parent n (rowAt cs row) (placeAt cs ws next (p .at))) cs ws m m′ p r
 
 -- A group's id, and what follows it.
 abbrev pub groupBytes : (version deep : ℕ) → Objects × String → List ℕ

@@ -11,7 +11,7 @@ use passes::target::write_value;
 ghost use mathlib.Core.Path.{_≡_};
 ghost use Prim.Native.Nat.{_+_, _*_, _≤_};
 ghost use lib.ListN.{length};
-ghost use Rattle.table.specs.Walks.{Stands, WalksLeaf, WalksObject, WalksGroup, WalksMany};
+ghost use Rattle.table.specs.Walks.{Stands, WalksLeaf, WalksObject, WalksOwn, WalksGroup, WalksMany};
 
 // Everything that is wrong with a table is 16.
 pub fn lost(row: usize) -> Walked
@@ -102,6 +102,56 @@ pub fn object(
     leaf(contents, words, out, p, row, version, parent)
 }
 
+// A group's own body, behind its members, which are this many.
+fn own_body(
+    contents: &[u32],
+    words: &[u32],
+    out: &mut [u8],
+    p: Pass,
+    next: usize,
+    row: usize,
+    version: u32,
+    parent: u32,
+    members: u32,
+) -> Walked
+    requires { ⌜ Stands (now contents) (now words) next p ⌝ }
+    requires { ⌜ 4 * row + 4 ≤ length (now contents) ⌝ }
+    ensures { λ r. ⌜ WalksOwn version parent members row next (now (contents .entry)) (now (words .entry)) (now (out .entry)) (now (out .exit)) p r ⌝ }
+{
+    let at = p.at;
+    let to = p.to;
+    let counted = count_word(words, p);
+    let value = counted.value;
+    let judged = counted.pass;
+    if judged.number != 0 {
+        return lost(row);
+    }
+    let ended = end_words(
+        words,
+        out,
+        Pass {
+            number: 0,
+            at: judged.at,
+            to: to,
+        },
+        version,
+    );
+    if ended.number != 0 {
+        return lost(row);
+    }
+    if value != members as u64 {
+        return lost(row);
+    }
+    let end = ended.at;
+    if is_row(contents, row, 1, parent, at, end - at) {
+        return Walked {
+            row: next,
+            pass: ended,
+        };
+    }
+    lost(row)
+}
+
 // A group, of which the row is there. Its members are as many as the word says at which its body begins, and that word is judged when the walk gets
 // there.
 pub fn group(
@@ -143,37 +193,17 @@ pub fn group(
     if behind.number != 0 {
         return lost(row);
     }
-    let own = behind.at;
-    let counted = count_word(words, behind);
-    let value = counted.value;
-    let judged = counted.pass;
-    if judged.number != 0 {
-        return lost(row);
-    }
-    let ended = end_words(
+    own_body(
+        contents,
         words,
         out,
-        Pass {
-            number: 0,
-            at: judged.at,
-            to: behind.to,
-        },
+        behind,
+        inner.row,
+        row,
         version,
-    );
-    if ended.number != 0 {
-        return lost(row);
-    }
-    if value != members as u64 {
-        return lost(row);
-    }
-    let end = ended.at;
-    if is_row(contents, row, 1, parent, own, end - own) {
-        return Walked {
-            row: inner.row,
-            pass: ended,
-        };
-    }
-    lost(row)
+        parent,
+        members,
+    )
 }
 
 // So many objects, one after another.
