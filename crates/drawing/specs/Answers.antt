@@ -69,6 +69,10 @@ checkFrom (some d) = answer 0 (length (fileOf d)) (rowsOf d) (wordCount d)
 abbrev pub checkAnswer : (contents bodies : List ℕ) → Answer
 checkAnswer contents bodies = checkFrom (drawingOfTable contents bodies)
 
+-- What `check` promises, for every two runs of words.
+pub record Checks (contents bodies : List ℕ) (r : Answer) : Type 0 where
+  pub says : r ≡ checkAnswer contents bodies
+
 -- ---- writing a table's file
 
 -- An answer, with what a run that was lent for output then holds.
@@ -87,6 +91,10 @@ writeFrom (some d) file = written (unless (leb (length (fileOf d)) (length file)
 
 abbrev pub writeOutput : (contents bodies file : List ℕ) → Output
 writeOutput contents bodies file = writeFrom (drawingOfTable contents bodies) file
+
+-- What `write` promises, for every two runs of words and any lent memory.
+pub record Writes (contents bodies file : List ℕ) (r : Answer) (file′ : List ℕ) : Type 0 where
+  pub says : record { answer = r; buffer = file′ } ≡ writeOutput contents bodies file
 
 -- ---- listing the objects with a label
 

@@ -23,10 +23,13 @@ small (suc (suc (suc zero))) h = refl
 small (suc (suc (suc (suc zero)))) h = refl
 small (suc (suc (suc (suc (suc n))))) h = absurd (omega arith)
 
+pub minor-small : (v : ℕ) → Allowed (integerIn 0 lastMinor) v → v ≤ lastMinor
+minor-small v a = in-range w32 0 4 v (unless-zero (inRange 0 4 (toZ w32 v)) 6 tt (a .faultless)) .1
+
 -- The minor version number of a table, and the version's chars of a file.
 minor-chars : (v : ℕ) → Allowed (integerIn 0 lastMinor) v → Allowed versionChars (versionZero + v)
 minor-chars v a =
-    let h : v ≤ 4 = in-range w32 0 4 v (unless-zero (inRange 0 4 (toZ w32 v)) 6 tt (a .faultless)) .1 in
+    let h : v ≤ 4 = minor-small v a in
     let low : leb versionZero (versionZero + v) ≡ true = le-leb versionZero (versionZero + v) (omega arith) in
     let high : leb (versionZero + v) (versionZero + lastMinor) ≡ true = le-leb (versionZero + v) (versionZero + lastMinor) (omega arith) in
     record { fits = omega arith; faultless = rw (low, high) }

@@ -8,3 +8,6 @@ pub mod MemberWalkLaws
 pub mod OwnWalkLaws
 pub mod GroupWalkLaws
 pub mod ObjectWalkLaws
+pub mod FileWalks
+pub mod FileWalkLaws
+pub mod AnswerLaws

@@ -1,0 +1,77 @@
+use Rattle.table.specs.AnswerLaws.{long-refused, walk-refused, walk-small, walk-checked}
+use Rattle.format.specs.LeafLaws.{known-below}
+use native.Mathlib.Omega.{arith}
+use mir.Syntax.{w32}
+use mathlib.Core.Logic.{inl, inr}
+use borrow.Author.Needs.{needs}
+use Rattle.table.proofs.answers.check.Statement.{statement}
+use Rattle.table.proofs.answers.check.Tie as tie
+use Rattle.table.proofs.answers.check.Reads as reads
+use Rattle.table.proofs.answers.check.Lts as lts
+use Rattle.table.proofs.answers.no_table.Reads as no-table-reads
+use Rattle.table.proofs.file.walk_table.Reads as walk-table-reads
+
+-- src/answers.rt:23:9
+no-table-requires : tie.Need-no-table-requires
+no-table-requires c κs = search needs
+
+-- src/answers.rt:23:9
+returns : tie.Need-returns
+returns c = long-refused (c .before .before .before .before .args .contents .now) (c .before .before .before .before .args .words .now) (known-below w32 (c .before .before .before .before .args .words .now) (c .before .before .shared-slice-known2 .given)) (inl (c .before .if1 .taken)) (c .no-table .ensures)
+
+-- src/answers.rt:26:9
+no-table-requires-2 : tie.Need-no-table-requires-2
+no-table-requires-2 c κs = search needs
+
+-- src/answers.rt:26:9
+returns-2 : tie.Need-returns-2
+returns-2 c = long-refused (c .before .before .before .before .before .args .contents .now) (c .before .before .before .before .before .args .words .now) (known-below w32 (c .before .before .before .before .before .args .words .now) (c .before .before .before .shared-slice-known2 .given)) (inr (c .before .if2 .taken)) (c .no-table2 .ensures)
+
+-- src/answers.rt:29:46
+slice-aggregate-walk-table : tie.Need-slice-aggregate-walk-table
+slice-aggregate-walk-table c = search needs
+
+-- src/answers.rt:29:9
+walk-table-requires : tie.Need-walk-table-requires
+walk-table-requires c κs = search needs
+
+-- src/answers.rt:32:9
+no-table-requires-3 : tie.Need-no-table-requires-3
+no-table-requires-3 c κs = search needs
+
+-- src/answers.rt:32:9
+returns-3 : tie.Need-returns-3
+returns-3 c = walk-refused (c .before .before .before .before .before .before .before .before .before .before .before .args .contents .now) (c .before .before .before .before .before .before .before .before .before .before .before .args .words .now) (known-below w32 (c .before .before .before .before .before .before .before .before .before .before .before .args .words .now) (c .before .before .before .before .before .before .before .before .before .shared-slice-known2 .given)) (c .before .before .before .before .before .walk-table .ensures) (c .before .if3 .taken) (c .no-table3 .ensures)
+
+-- src/answers.rt:36:17
+cast-t10 : tie.Need-cast-t10
+cast-t10 c = let small = walk-small (c .before .before .before .before .before .before .before .before .before .before .before .args .contents .now) (c .before .before .before .before .before .before .before .before .before .before .before .args .words .now) (known-below w32 (c .before .before .before .before .before .before .before .before .before .before .before .args .words .now) (c .before .before .before .before .before .before .before .before .before .shared-slice-known2 .given)) (c .before .before .before .before .before .walk-table .ensures) (c .before .if3 .left) in omega (arith, small .0, small .1, small .2)
+
+-- src/answers.rt:37:15
+cast-t11 : tie.Need-cast-t11
+cast-t11 c = let small = walk-small (c .before .before .before .before .before .before .before .before .before .before .before .before .args .contents .now) (c .before .before .before .before .before .before .before .before .before .before .before .before .args .words .now) (known-below w32 (c .before .before .before .before .before .before .before .before .before .before .before .before .args .words .now) (c .before .before .before .before .before .before .before .before .before .before .shared-slice-known2 .given)) (c .before .before .before .before .before .before .walk-table .ensures) (c .before .before .if3 .left) in omega (arith, small .0, small .1, small .2)
+
+-- src/answers.rt:38:16
+cast-t12 : tie.Need-cast-t12
+cast-t12 c = let small = walk-small (c .before .before .before .before .before .before .before .before .before .before .before .before .before .args .contents .now) (c .before .before .before .before .before .before .before .before .before .before .before .before .before .args .words .now) (known-below w32 (c .before .before .before .before .before .before .before .before .before .before .before .before .before .args .words .now) (c .before .before .before .before .before .before .before .before .before .before .before .shared-slice-known2 .given)) (c .before .before .before .before .before .before .before .walk-table .ensures) (c .before .before .before .if3 .left) in omega (arith, small .0, small .1, small .2)
+
+-- src/answers.rt:19:1
+returns-4 : tie.Need-returns-4
+returns-4 c = walk-checked (c .before .before .before .before .before .before .before .before .before .before .before .before .before .args .contents .now) (c .before .before .before .before .before .before .before .before .before .before .before .before .before .args .words .now) (known-below w32 (c .before .before .before .before .before .before .before .before .before .before .before .before .before .args .words .now) (c .before .before .before .before .before .before .before .before .before .before .before .shared-slice-known2 .given)) (c .before .before .before .before .before .before .before .walk-table .ensures) (c .before .before .before .if3 .left)
+
+pub check-spec : {M : Type 1} → statement M
+check-spec =
+    tie.close
+    (tie.spec
+    no-table-requires
+    returns
+    no-table-requires-2
+    returns-2
+    slice-aggregate-walk-table
+    walk-table-requires
+    no-table-requires-3
+    returns-3
+    cast-t10
+    cast-t11
+    cast-t12
+    returns-4)

@@ -1,0 +1,61 @@
+// Checking any two runs of words, and writing the file of a table.
+use crate::file::walk_table;
+use drawing::Answer;
+ghost use mathlib.Core.Path.{_≡_};
+ghost use Rattle.drawing.specs.Answers.{noTable, Checks, Writes};
+
+fn no_table() -> Answer
+    ensures { λ r. ⌜ r ≡ noTable ⌝ }
+{
+    Answer {
+        number: 16,
+        offset: 0,
+        rows: 0,
+        words: 0,
+    }
+}
+
+// A run that is too long for any acceptable file is not looked into.
+pub fn check(contents: &[u32], words: &[u32]) -> Answer
+    ensures { λ r. ⌜ Checks (now (contents .entry)) (now (words .entry)) r ⌝ }
+{
+    if 262140 < contents.len() {
+        return no_table();
+    }
+    if 65535 < words.len() {
+        return no_table();
+    }
+    let mut no_file = [0u8; 0];
+    let walked = walk_table(contents, words, &mut no_file);
+    let behind = walked.pass;
+    if behind.number != 0 {
+        return no_table();
+    }
+    Answer {
+        number: 0,
+        offset: behind.to as u32,
+        rows: walked.row as u32,
+        words: behind.at as u32,
+    }
+}
+
+// The file's length is known before its first byte is stored.
+pub fn write(contents: &[u32], words: &[u32], file: &mut [u8]) -> Answer
+    ensures { λ r. ⌜ Writes (now (contents .entry)) (now (words .entry)) (now (file .entry)) r (now (file .exit)) ⌝ }
+{
+    let checked = check(contents, words);
+    if checked.number != 0 {
+        return checked;
+    }
+    let needed = checked.offset;
+    if file.len() < needed as usize {
+        return Answer {
+            number: 17,
+            offset: needed,
+            rows: 0,
+            words: 0,
+        };
+    }
+    let _ = walk_table(contents, words, file);
+    checked
+}
