@@ -1,6 +1,6 @@
 // The calls of the library, for other programs: each with its contract, which decides its answer and all lent memory for every input. The numbers of
 // answers are 01's; the definitions that the contracts cite are in crates/drawing/specs.
-ghost use Rattle.drawing.specs.Answers.{Reads};
+ghost use Rattle.drawing.specs.Answers.{Reads, Checks, Writes};
 pub use drawing::Answer;
 
 // Reads a file into a table: contents, a row of four words an object, and bodies. Number 0 with the file's length and the counts of rows and words;
@@ -9,4 +9,19 @@ pub fn read(file: &[u8], contents: &mut [u32], bodies: &mut [u32]) -> Answer
     ensures { λ r. ⌜ Reads (now (file .entry)) (now (contents .entry)) (now (bodies .entry)) r (now (contents .exit)) (now (bodies .exit)) ⌝ }
 {
     reader::read(file, contents, bodies)
+}
+
+// Whether two runs of words are a table that some acceptable file gives. Number 0 with that file's length and the counts of rows and words; or 16.
+pub fn check(contents: &[u32], bodies: &[u32]) -> Answer
+    ensures { λ r. ⌜ Checks (now (contents .entry)) (now (bodies .entry)) r ⌝ }
+{
+    table::answers::check(contents, bodies)
+}
+
+// Writes the file that a table comes from. Number 0 with the file's length and the counts; 16 where there is no such file; 17, with the bytes needed
+// as offset, where there is no room. Memory changes only with number 0, and nothing past the file.
+pub fn write(contents: &[u32], bodies: &[u32], file: &mut [u8]) -> Answer
+    ensures { λ r. ⌜ Writes (now (contents .entry)) (now (bodies .entry)) (now (file .entry)) r (now (file .exit)) ⌝ }
+{
+    table::answers::write(contents, bodies, file)
 }
