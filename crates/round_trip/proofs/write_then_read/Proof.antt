@@ -1,0 +1,73 @@
+use lib.Seq.{length-take-le}
+use mathlib.Core.Path.{sym}
+use Rattle.round_trip.specs.RoundTripLaws.{table-refused, length-fits, table-back}
+use Rattle.format.specs.LeafLaws.{known-below}
+use native.Mathlib.Omega.{arith}
+use mir.Syntax.{w32}
+use borrow.Author.Needs.{needs}
+use Rattle.round_trip.proofs.write_then_read.Statement.{statement}
+use Rattle.round_trip.proofs.write_then_read.Tie as tie
+use Rattle.round_trip.proofs.write_then_read.Reads as reads
+use Rattle.round_trip.proofs.write_then_read.Lts as lts
+use Rattle.jdr.proofs.read.Reads as read-reads
+use Rattle.jdr.proofs.write.Reads as write-reads
+
+-- src/lib.rt:47:9
+write-requires : tie.Need-write-requires
+write-requires c κs = search needs
+
+-- src/lib.rt:49:9
+same-length : tie.Need-same-length
+same-length c = search needs
+
+-- src/lib.rt:49:9
+returns : tie.Need-returns
+returns c = table-refused (c .before .before .before .before .write .ensures) (c .if1 .taken)
+
+-- src/lib.rt:54:18
+cast-length : tie.Need-cast-length
+cast-length c = search needs
+
+-- src/lib.rt:55:26
+slice-reshare-prefix-read : tie.Need-slice-reshare-prefix-read
+slice-reshare-prefix-read c = omega (arith, length-fits (c .before .before .before .before .before .write .ensures) (known-below w32 (c .before .before .before .before .before .before .before .before .before .before .before .before .args .bodies .now) (c .before .before .before .before .before .before .before .before .before .before .shared-slice-known2 .given)) (c .before .if1 .left))
+
+-- src/lib.rt:55:26
+slice-aggregate-read : tie.Need-slice-aggregate-read
+slice-aggregate-read c = sym (length-take-le (c .before .before .before .before .before .before .write .result .offset) _ (length-fits (c .before .before .before .before .before .before .write .ensures) (known-below w32 (c .before .before .before .before .before .before .before .before .before .before .before .before .before .args .bodies .now) (c .before .before .before .before .before .before .before .before .before .before .before .shared-slice-known2 .given)) (c .before .before .if1 .left)))
+
+-- src/lib.rt:55:9
+read-requires : tie.Need-read-requires
+read-requires c κs = search needs
+
+-- src/lib.rt:38:1
+same-length-2 : tie.Need-same-length-2
+same-length-2 c = search needs
+
+-- src/lib.rt:38:1
+same-length-3 : tie.Need-same-length-3
+same-length-3 c = search needs
+
+-- src/lib.rt:38:1
+same-length-4 : tie.Need-same-length-4
+same-length-4 c = search needs
+
+-- src/lib.rt:38:1
+returns-2 : tie.Need-returns-2
+returns-2 c = table-back (c .before .before .before .before .before .before .before .before .before .before .before .before .before .write .ensures) (known-below w32 (c .before .before .before .before .before .before .before .before .before .before .before .before .before .before .before .before .before .before .before .before .args .bodies .now) (c .before .before .before .before .before .before .before .before .before .before .before .before .before .before .before .before .before .before .shared-slice-known2 .given)) (c .before .before .before .before .before .before .before .before .before .if1 .left) (c .before .before .before .before .read .ensures)
+
+pub write-then-read-spec : {M : Type 1} → statement M
+write-then-read-spec =
+    tie.close
+    (tie.spec
+    write-requires
+    same-length
+    returns
+    cast-length
+    slice-reshare-prefix-read
+    slice-aggregate-read
+    read-requires
+    same-length-2
+    same-length-3
+    same-length-4
+    returns-2)

@@ -1,0 +1,3 @@
+-- Demand 2, stated of the calls, and proved from their contracts.
+pub mod RoundTrip
+pub mod RoundTripLaws

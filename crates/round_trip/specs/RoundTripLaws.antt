@@ -1,0 +1,137 @@
+-- Demand 2 of the calls, from what each call promises.
+use mathlib.Core.Path.{_≡_, refl, sym, ap, subst, _∙_}
+use mathlib.Core.Option.{Option, none, some}
+use Prim.Native.Nat.{ℕ, _*_, _/_, _^_, _≤_}
+use native.Mathlib.Omega.{arith}
+use mathlib.Core.List.{List, [], _++_, append-nil}
+use lib.ListN.{length, take, drop, drop-of-length-le, length-append}
+use Rattle.format.specs.Digits.{Below}
+use Rattle.format.specs.Format.{fields}
+use Rattle.format.specs.FixedCodecLaws.{below-spelled}
+use Rattle.drawing.specs.declared.Answer.{Answer}
+use Rattle.drawing.specs.Codecs.{byteFields}
+use Rattle.drawing.specs.Drawing.{Drawing, outer, file as fileLayout, fileOf}
+use Rattle.drawing.specs.Table.{IsTable, headWords, contentsOf, bodiesOf}
+use Rattle.drawing.specs.TableDrawing.{drawingOfTable}
+use Rattle.drawing.specs.Answers.{answer, rowsOf, wordCount, overwrite, ReadResult, readResult, Reads, checkFrom, Checks, Output, writeOutput, Writes}
+use Rattle.laws.specs.CodecLaws.{bytes-sensible}
+use Rattle.laws.specs.OrderLaws.{contents-length}
+use Rattle.laws.specs.TableLaws.{drawing-of-table}
+use Rattle.laws.specs.AnswerLaws.{Accepted, read-accepts, read-gives, Writable, write-accepts, write-gives, read-then-write, write-then-read}
+use Rattle.round_trip.specs.declared.Numbers.{Numbers}
+use Rattle.round_trip.specs.RoundTrip.{FileComesBack, TableComesBack, Gives, Given, Checked}
+
+-- ---- a file
+
+module _ {file contents bodies contents′ bodies′ : List ℕ} {a : Answer} (reads : Reads file contents bodies a contents′ bodies′) where
+  read-is : readResult file contents bodies ≡ record { answer = a; contents = contents′; bodies = bodies′ }
+  read-is = sym (reads .says)
+
+  pub file-refused : (a .number ≡ 0 → ⊥) → {copy copy′ : List ℕ} → FileComesBack file copy copy′ (record { first = a .number; second = a .number })
+  file-refused gone = record { back = λ on room. absurd (gone on) }
+
+  pub file-back : Below 256 file → a .number ≡ 0 → {copy copy′ : List ℕ} {w : Answer} → Writes (take (4 * a .rows) contents′) (take (a .words) bodies′) copy w copy′
+      → FileComesBack file copy copy′ (record { first = 0; second = w .number })
+  file-back below on {copy} {copy′} {w} writes = record { back = λ zero-is room. (number-back room, ap (λ o. o .buffer) (both room)) }
+    where
+      both : length file ≤ length copy → _≡_ {A = Output} (record { answer = w; buffer = copy′ }) (record { answer = a; buffer = overwrite file copy })
+      both room =
+          writes .says
+          ∙ subst (λ (r : ReadResult). writeOutput (take (4 * r .answer .rows) (r .contents)) (take (r .answer .words) (r .bodies)) copy ≡ record { answer = r .answer; buffer = overwrite file copy }) read-is
+          (read-then-write file contents bodies copy below (ap (λ (r : ReadResult). r .answer .number) read-is ∙ on) room)
+
+      number-back : length file ≤ length copy → w .number ≡ 0
+      number-back room = ap (λ (o : Output). o .answer .number) (both room) ∙ on
+
+-- ---- a table
+
+module _ {contents bodies file file′ : List ℕ} {w : Answer} (writes : Writes contents bodies file w file′) where
+  write-is : writeOutput contents bodies file ≡ record { answer = w; buffer = file′ }
+  write-is = sym (writes .says)
+
+  pub table-refused : (w .number ≡ 0 → ⊥) → {c b c′ b′ : List ℕ} → TableComesBack contents bodies c b c′ b′ (record { first = w .number; second = w .number })
+  table-refused gone = record { back = λ on rows words. absurd (gone on) }
+
+  module _ (below : Below (2 ^ 32) bodies) (on : w .number ≡ 0) where
+    writable : Writable contents bodies file
+    writable = write-accepts contents bodies file below .0 (ap (λ (o : Output). o .answer .number) write-is ∙ on)
+
+    d : Drawing
+    d = writable .drawing
+
+    given : _≡_ {A = Output} (record { answer = w; buffer = file′ }) (record { answer = answer 0 (length (fileOf d)) (rowsOf d) (wordCount d); buffer = overwrite (fileOf d) file })
+    unfolding d
+    given = writes .says ∙ write-gives contents bodies file below writable
+
+    pub length-fits : w .offset ≤ length file′
+    unfolding d
+    length-fits =
+        let offset : w .offset ≡ length (fileOf d) = ap (λ (o : Output). o .answer .offset) given in
+        let long : length file′ ≡ length (overwrite (fileOf d) file) = ap (λ (o : Output). length (o .buffer)) given in
+        let sum = length-append (fileOf d) (drop (length (fileOf d)) file) in
+        omega (arith, offset, long, sum)
+
+    pub table-back : {c b c′ b′ : List ℕ} {a : Answer} → Reads (take (w .offset) file′) c b a c′ b′ → TableComesBack contents bodies c b c′ b′ (record { first = 0; second = a .number })
+    unfolding d
+    table-back {c} {b} {c′} {b′} {a} reads = record { back = λ zero-is rows words. let r = both rows words in (ap (λ (r : ReadResult). r .answer .number) r ∙ on, ap (λ (r : ReadResult). r .contents) r, ap (λ (r : ReadResult). r .bodies) r) }
+      where
+        both : length contents ≤ length c → length bodies ≤ length b → _≡_ {A = ReadResult} (record { answer = a; contents = c′; bodies = b′ }) (record { answer = w; contents = overwrite contents c; bodies = overwrite bodies b })
+        both rows words =
+            let rows-are : w .rows ≡ rowsOf d = ap (λ (o : Output). o .answer .rows) given in
+            let words-are : w .words ≡ wordCount d = ap (λ (o : Output). o .answer .words) given in
+            let all-rows : length contents ≡ 4 * rowsOf d = ap length (writable .is-table .contents-are) ∙ contents-length (outer d) (d .version) 0 0 (length (headWords d)) in
+            let all-words : length bodies ≡ wordCount d = ap length (writable .is-table .bodies-are) in
+            let rows-fit : w .rows ≤ length c / 4 = omega (arith, rows-are, all-rows, rows) in
+            let words-fit : w .words ≤ length b = omega (arith, words-are, all-words, words) in
+            reads .says
+            ∙ subst (λ (o : Output). readResult (take (o .answer .offset) (o .buffer)) c b ≡ record { answer = o .answer; contents = overwrite contents c; bodies = overwrite bodies b }) write-is
+            (write-then-read contents bodies file c b below (ap (λ (o : Output). o .answer .number) write-is ∙ on)
+            (subst (λ (o : Output). o .answer .rows ≤ length c / 4) (sym write-is) rows-fit)
+            (subst (λ (o : Output). o .answer .words ≤ length b) (sym write-is) words-fit))
+
+-- ---- a table that is checked
+
+-- What fills all of a run is what the run then holds.
+overwrite-all : (new buffer : List ℕ) → length buffer ≡ length new → overwrite new buffer ≡ new
+overwrite-all new buffer same =
+    let fits : length buffer ≤ length new = omega (arith, same) in
+    ap (λ l. new ++ l) (drop-of-length-le buffer fits) ∙ append-nil new
+
+pub table-checked : {contents bodies : List ℕ} {a : Answer} → Below (2 ^ 32) bodies → Checks contents bodies a → Checked contents bodies a
+table-checked {contents} {bodies} {a} below checks = record { exactly = (there (drawingOfTable contents bodies) refl, back) }
+  where
+    there : (o : Option Drawing) → drawingOfTable contents bodies ≡ o → a .number ≡ 0 → Given contents bodies
+    there none is on = let z : _≡_ {A = ℕ} 0 16 = sym on ∙ ap (λ (x : Answer). x .number) (checks .says ∙ ap checkFrom is) in absurd (omega arith)
+    there (some d) is on =
+        let table = drawing-of-table contents bodies below d .0 is in
+        let rows : length contents ≡ 4 * rowsOf d = ap length (table .contents-are) ∙ contents-length (outer d) (d .version) 0 0 (length (headWords d)) in
+        let words : length bodies ≡ wordCount d = ap length (table .bodies-are) in
+        let bytes = below-spelled byteFields bytes-sensible (fields (fileLayout .format) d) in
+        record {
+          file = fileOf d;
+          of-bytes = bytes;
+          gives = λ c b same-rows same-words.
+              let accepted : Accepted (fileOf d) c b = record { drawing = d; acceptable = table .acceptable; file-is = refl; rows-fit = omega (arith, rows, same-rows); words-fit = omega (arith, words, same-words) } in
+              subst (Gives contents bodies) (sym (read-gives (fileOf d) c b bytes accepted))
+              (record {
+                accepted = refl;
+                rows-are = sym rows;
+                words-are = sym words;
+                contents-are = overwrite-all (contentsOf d) c (same-rows ∙ ap length (table .contents-are)) ∙ sym (table .contents-are);
+                bodies-are = overwrite-all (bodiesOf d) b (same-words ∙ ap length (table .bodies-are)) ∙ sym (table .bodies-are);
+              });
+        }
+
+    back : Given contents bodies → a .number ≡ 0
+    back given =
+        let here = given .gives contents bodies refl refl in
+        let accepted = read-accepts (given .file) contents bodies (given .of-bytes) .0 (here .accepted) in
+        let d = accepted .drawing in
+        let result = read-gives (given .file) contents bodies (given .of-bytes) accepted in
+        let rows : 4 * rowsOf d ≡ length contents = subst (λ (r : ReadResult). 4 * r .answer .rows ≡ length contents) result (here .rows-are) in
+        let words : wordCount d ≡ length bodies = subst (λ (r : ReadResult). r .answer .words ≡ length bodies) result (here .words-are) in
+        let long : length contents ≡ length (contentsOf d) = sym rows ∙ sym (contents-length (outer d) (d .version) 0 0 (length (headWords d))) in
+        let contents-are : contents ≡ contentsOf d = sym (subst (λ (r : ReadResult). r .contents ≡ contents) result (here .contents-are)) ∙ overwrite-all (contentsOf d) contents long in
+        let bodies-are : bodies ≡ bodiesOf d = sym (subst (λ (r : ReadResult). r .bodies ≡ bodies) result (here .bodies-are)) ∙ overwrite-all (bodiesOf d) bodies (sym words) in
+        let is = drawing-of-table contents bodies below d .1 (record { acceptable = accepted .acceptable; contents-are = contents-are; bodies-are = bodies-are }) in
+        ap (λ (x : Answer). x .number) (checks .says ∙ ap checkFrom is)
