@@ -13,7 +13,6 @@ use mir.Syntax.{w8}
 use mir.Val.{Fits}
 use borrow.Author.Tests.{leb-true, le-ltb, lt-ltb}
 use Rattle.format.specs.Kind.{Allowed}
-use Rattle.format.specs.LeafLaws.{below-drop, known-below}
 use Rattle.format.specs.Codec.{Outcome, found, refused, andThen}
 use Rattle.format.specs.Layout.{Layout, parse}
 use Rattle.drawing.specs.Codecs.{bytes, byteFields}
@@ -31,16 +30,12 @@ use Rattle.fields.specs.declared.turn.Turn.{Turn}
 use Rattle.fields.specs.declared.turn.Turn.the-variants as Turn
 use Rattle.fields.specs.Kinds.{kindOf}
 use Rattle.fields.specs.Turn.{Turned}
-use Rattle.automaton.specs.declared.Expect.the-variants as Expect
-use Rattle.automaton.specs.declared.Settings.the-variants as SettingsState
-use Rattle.automaton.specs.Unfolds.{settings-state}
 use Rattle.scanner.specs.declared.Scan.{Scan}
 use Rattle.scanner.specs.declared.Scan.the-variants as Scan
-use Rattle.scanner.specs.Runs.{inWords}
 use Rattle.scanner.specs.Scans.{Within, scanOf, EndsWithin, ScannedBody}
 use Rattle.scanner.specs.ScanLaws.{place-of}
 use Rattle.scanner.specs.ObjectScans.{Placed, counted, Ended, ScannedGroup}
-use Rattle.scanner.specs.ObjectScanLaws.{Passed, passed, Stopped, stopped, scan-layout}
+use Rattle.scanner.specs.ObjectScanLaws.{Passed, passed, Stopped, stopped}
 use Rattle.scanner.specs.FileScans.{fileScan, outerScan, ScannedOuter, ScannedSettings, ScannedVersion, ScannedFile}
 use Rattle.laws.specs.FileParseLaws.{outer-parse, file-parse, fromSettings, fromVersion}
 
@@ -139,12 +134,10 @@ outer-drawing total v words s (found (os, d) (b ∷ rest)) e = refl
 outer-drawing total v words s (refused n place) e = refl
 
 module _ (file : List ℕ) (known : (i : ℕ) → Fits w8 (getD file i 0)) (v at : ℕ) (within : Within (length file) at 1) (b : Scan)
-    (scanned : ScannedBody file v (Expect.Settings SettingsState.Which) at 0 1 b) where
+    (scanned : ScannedBody (settings v) file at 0 1 b) where
   as-parsed : b ≡ counted (λ a. 0) (λ a. length (wordsOf (settings v) a)) (length file) 0 1 (parse bytes (settings v) (drop at file))
   as-parsed =
       scanned .says
-      ∙ ap (λ script. scanOf (length file) 0 1 (inWords script (drop at file))) (settings-state v)
-      ∙ scan-layout (settings v) (length file) 0 1 (drop at file) (below-drop 256 at file (known-below w8 file known))
       ∙ body-counted (settings v) (length file) 0 1 (parse bytes (settings v) (drop at file))
 
   pub settings-stop : (n place : ℕ) → b ≡ Scan.Refused n place → ScannedSettings file v at (Scan.Refused n place)

@@ -7,8 +7,6 @@ use mathlib.Core.List.{List, [], _∷_, _++_}
 use lib.ListN.{length, drop, getD, length-append}
 use mir.Syntax.{w8}
 use mir.Val.{Fits}
-use Rattle.format.specs.Digits.{Below}
-use Rattle.format.specs.LeafLaws.{below-drop, known-below}
 use Rattle.format.specs.Codec.{Outcome, found, refused, andThen}
 use Rattle.format.specs.Layout.{Layout, repeat, parse}
 use Rattle.format.specs.TranslateLaws.{parse-threaded}
@@ -25,16 +23,13 @@ use Rattle.fields.specs.declared.turn.Turn.{Turn}
 use Rattle.fields.specs.declared.turn.Turn.the-variants as Turn
 use Rattle.fields.specs.Kinds.{kindOf}
 use Rattle.fields.specs.Turn.{Turned}
-use Rattle.automaton.specs.declared.Expect.the-variants as Expect
-use Rattle.automaton.specs.Unfolds.{end-state}
 use Rattle.scanner.specs.declared.Scan.{Scan}
 use Rattle.scanner.specs.declared.Scan.the-variants as Scan
-use Rattle.scanner.specs.Runs.{inWords}
 use Rattle.scanner.specs.Scans.{Within, scanOf, ScannedBody}
 use Rattle.scanner.specs.ScanLaws.{place-of}
 use Rattle.scanner.specs.ObjectScans.{Placed, counted, Ended, Scanned, ScannedObject, ScannedMembers, ScannedGroup}
 use Rattle.laws.specs.ParseLaws.{group-parse}
-use Rattle.scanner.specs.ObjectScanLaws.{Passed, passed, Stopped, stopped, scan-layout, ended-body, ended-later}
+use Rattle.scanner.specs.ObjectScanLaws.{Passed, passed, Stopped, stopped, ended-body, ended-later}
 
 -- ---- members
 
@@ -183,7 +178,7 @@ module _ (file : List ℕ) (known : (i : ℕ) → Fits w8 (getD file i 0)) (v de
         pub group-tail : Placed (length file) next more kept
         group-tail = let done : ScannedMembers file v deep members (at + 4) rs (ws + 1) (Scan.Done next more kept) = rw gone at scanned in done .ended .1
 
-        pub group-end : (r : Scan) → ScannedBody file v Expect.FlowFlag next more kept r → ScannedGroup file v deep at rs ws r
+        pub group-end : (r : Scan) → ScannedBody (objectEnd v) file next more kept r → ScannedGroup file v deep at rs ws r
         group-end r s =
             let done : ScannedMembers file v deep members (at + 4) rs (ws + 1) (Scan.Done next more kept) = rw gone at scanned in
             let p : Passed (repeat members (object v deep)) (λ os. rowsAll (ofList os)) (λ os. length (bodiesAll (ofList os) v)) file (at + 4) rs (ws + 1) next more kept =
@@ -191,8 +186,6 @@ module _ (file : List ℕ) (known : (i : ℕ) → Fits w8 (getD file i 0)) (v de
             record {
               says =
                   s .says
-                  ∙ ap (λ script. scanOf (length file) more kept (inWords script (drop next file))) (end-state v)
-                  ∙ scan-layout (objectEnd v) (length file) more kept (drop next file) (below-drop 256 next file (known-below w8 file known))
                   ∙ same-group-end v (length file) rs ws more kept (p .value) (parse bytes (objectEnd v) (drop next file)) (p .rows-are) (p .words-are)
                   ∙ sym (ap (groupCounted v (length file) rs ws) (from-members ∙ ap (λ o. andThen o (λ os rest₂. andThen (parse bytes (objectEnd v) rest₂) (λ d rest₃. found (ofList os, d) rest₃))) (p .parsed)));
               ended = ended-body (length file) at next more r (s .within) (omega (arith, done .ended .0)) (done .ended .1 .few-rows);
