@@ -17,6 +17,10 @@ pub record Within (total at words : ℕ) : Type 0 where
   pub inside : at ≤ total
   pub few : words ≤ at
 
+-- What a layout lays out at a place of a file, in words.
+abbrev pub wordsAt : {A : Type 0} → Layout A → (file : List ℕ) (at : ℕ) → Outcome (List ℕ)
+wordsAt L file at = andThen (parse bytes L (drop at file)) (λ a rest. found (wordsOf L a) rest)
+
 -- The scan of fields that come to these words.
 abbrev pub scanOf : (total rows words : ℕ) → Outcome (List ℕ) → Scan
 scanOf total rows words (found ws rest) = Scan.Done (total - length rest) rows (words + length ws)
@@ -34,5 +38,5 @@ EndsWithin total from above (Scan.Refused n place) = Unit {0}
 
 -- The scan of what a layout lays out at a place: its words are counted.
 pub record ScannedBody {A : Type 0} (L : Layout A) (file : List ℕ) (from rows words : ℕ) (r : Scan) : Type 0 where
-  pub says : r ≡ scanOf (length file) rows words (andThen (parse bytes L (drop from file)) (λ a rest. found (wordsOf L a) rest))
+  pub says : r ≡ scanOf (length file) rows words (wordsAt L file from)
   pub within : EndsWithin (length file) from rows r

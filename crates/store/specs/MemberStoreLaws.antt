@@ -19,8 +19,8 @@ use Rattle.laws.specs.OrderLaws.{contents-length, contents-length-all}
 use Rattle.scanner.specs.ScanLaws.{place-of}
 use Rattle.laws.specs.ParseLaws.{Behind, behind}
 use Rattle.store.specs.declared.Reach.{Reach}
-use Rattle.store.specs.Splice.{splice}
-use Rattle.store.specs.SpliceLaws.{splice-nil, splice-behind}
+use Rattle.format.specs.Pass.{splice}
+use Rattle.format.specs.SpliceLaws.{splice-nil, splice-behind}
 use Rattle.store.specs.ObjectStores.{Table, tabled, RoomFor, Storable, Stored, objectAt, membersAt, objectRows, memberRows, StorableObject, StorableMembers, StoredObject, StoredMembers}
 
 abbrev membersTabled : (total version parent row to : ℕ) → (cs bs : List ℕ) → Outcome (List Object) → Table

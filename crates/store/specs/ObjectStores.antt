@@ -12,7 +12,7 @@ use Rattle.drawing.specs.Object.{Object, group, Objects, ofList}
 use Rattle.drawing.specs.ObjectLayout.{object, groupBody}
 use Rattle.drawing.specs.Table.{rowWidth, rows, rowsAll, bodies, bodiesAll, contents, contentsAll}
 use Rattle.store.specs.declared.Reach.{Reach}
-use Rattle.store.specs.Splice.{splice}
+use Rattle.format.specs.Pass.{splice}
 
 -- The lent memory, and the places behind what was read and stored.
 pub record Table : Type 0 where

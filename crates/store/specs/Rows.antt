@@ -12,8 +12,8 @@ use Rattle.format.specs.Digits.{digits}
 use Rattle.drawing.specs.Object.{Leaf, path, text, bitmap}
 use Rattle.drawing.specs.ObjectId.{leafLetter}
 use Rattle.drawing.specs.Table.{leafKind, row}
-use Rattle.store.specs.Splice.{splice}
-use Rattle.store.specs.SpliceLaws.{splice-behind}
+use Rattle.format.specs.Pass.{splice}
+use Rattle.format.specs.SpliceLaws.{splice-behind}
 
 abbrev pub kindByLetter : ℕ → ℕ
 kindByLetter c = cond (eqb c 84) 3 (cond (eqb c 73) 4 2)
