@@ -1,5 +1,3 @@
-pub mod Runs
-pub mod RunLaws
 pub mod Scans
 pub mod ScanLaws
 pub mod ObjectScans
