@@ -48,7 +48,7 @@ pub fn scan_group(
     requires { ⌜ Placed (length (now file)) at rows words ⌝ }
     ensures { λ r. ⌜ ScannedGroup (now (file .entry)) version deep at rows words r ⌝ }
 {
-    let count = turn_at(file, at, Kind::Count(1));
+    let count = turn_at(file, at, Kind::MemberCount);
     match count {
         Turn::Fault(number) => Scan::Refused {
             number: number,
