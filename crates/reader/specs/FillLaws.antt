@@ -1,23 +1,23 @@
 -- The laws of the second pass over a whole file: the version's word, the settings, the outer group.
-use mathlib.Core.Path.{_≡_, refl, sym, ap, ap₂, subst, _∙_}
-use Prim.Native.Nat.{ℕ, zero, suc, _+_, _-_, _*_, _^_, _<_, _≤_}
+use mathlib.Core.Path.{_≡_, sym, ap, ap₂, subst, _∙_}
+use Prim.Native.Nat.{ℕ, suc, _+_, _-_, _*_, _^_, _≤_}
 use native.Mathlib.Nat as Nat
 use native.Mathlib.Omega.{arith}
-use mathlib.Core.List.{List, [], _∷_, _++_, append-assoc}
+use mathlib.Core.List.{List, [], _∷_, _++_}
 use lib.ListN.{length, take, drop, getD, length-append}
 use mir.Syntax.{w8}
 use mir.Val as Val
 use Rattle.format.specs.Digits.{number, digits}
-use Rattle.format.specs.Codec.{Outcome, found, refused, andThen}
+use Rattle.format.specs.Codec.{found, andThen}
 use Rattle.format.specs.Layout.{parse}
 use Rattle.drawing.specs.Codecs.{bytes}
-use Rattle.drawing.specs.Limits.{lengthLimit, lastMinor}
+use Rattle.drawing.specs.Limits.{lastMinor}
 use Rattle.drawing.specs.Fields.{versionZero}
 use Rattle.drawing.specs.Object.{group}
 use Rattle.drawing.specs.ObjectLayout.{object, groupBody}
 use Rattle.drawing.specs.Settings.{settings}
-use Rattle.drawing.specs.Drawing.{Drawing, outer, drawing, drawingOf}
-use Rattle.drawing.specs.Table.{rowWidth, wordsOf, rows, rowsAll, bodies, contents, headWords, contentsOf, bodiesOf}
+use Rattle.drawing.specs.Drawing.{Drawing, drawing, drawingOf}
+use Rattle.drawing.specs.Table.{rowWidth, wordsOf, rows, rowsAll, bodies, contents, contentsOf, bodiesOf}
 use Rattle.drawing.specs.Answers.{overwrite, rowsOf, wordCount}
 use Rattle.scanner.specs.Scans.{wordsAt}
 use Rattle.store.specs.declared.Cursor.{Cursor}

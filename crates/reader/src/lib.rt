@@ -7,8 +7,6 @@ use scanner::file::scan_file;
 use store::body::store_settings_body;
 use store::objects::store_group;
 use store::words::store_word;
-ghost use mathlib.Core.Path.{_≡_};
-ghost use lib.ListN.{length};
 ghost use Rattle.scanner.specs.declared.Scan.the-variants as Scan;
 ghost use Rattle.scanner.specs.FileScans.{ScannedFile};
 ghost use Rattle.drawing.specs.Answers.{Reads};

@@ -1,13 +1,12 @@
 -- The laws of scanning a file, from the outer group back to its beginning.
 use mathlib.Core.Path.{_≡_, refl, sym, ap, subst, _∙_}
 use mathlib.Core.Bool.{Bool, true, false, cond, _&&_}
-use Prim.Native.Nat.{ℕ, zero, suc, _+_, _-_, _<_, _≤_}
-use Prim.Native.Char.{code}
+use Prim.Native.Nat.{ℕ, suc, _+_, _-_, _<_, _≤_}
 use native.Mathlib.Nat as Nat
 use native.Mathlib.Numerals.{add-one}
 use native.Mathlib.Omega.{arith}
 use mathlib.Core.List.{List, [], _∷_, _++_}
-use lib.Dec.{eqb, ltb, leb}
+use lib.Dec.{leb}
 use lib.ListN.{length, drop, getD, length-append, length-drop}
 use mir.Syntax.{w8}
 use mir.Val.{Fits}
@@ -17,14 +16,14 @@ use Rattle.format.specs.Codec.{Outcome, found, refused, andThen}
 use Rattle.format.specs.Layout.{Layout, parse}
 use Rattle.drawing.specs.Codecs.{bytes, byteFields}
 use Rattle.drawing.specs.Limits.{lengthLimit, lastMinor, depthLimit}
-use Rattle.drawing.specs.Fields.{charWhere, versionChars, versionZero}
+use Rattle.drawing.specs.Fields.{versionChars, versionZero}
 use Rattle.drawing.specs.FieldLaws.{unless-zero}
 use Rattle.drawing.specs.String.{String}
-use Rattle.drawing.specs.Object.{Object, group, Objects}
+use Rattle.drawing.specs.Object.{group, Objects}
 use Rattle.drawing.specs.ObjectLayout.{object, groupBody}
 use Rattle.drawing.specs.Settings.{Settings, settings}
-use Rattle.drawing.specs.Drawing.{Drawing, outerGroup, Reading, refusal, reading, drawingOf, file as fileLayout}
-use Rattle.drawing.specs.Table.{wordsOf, rowsAll, bodies, headWords}
+use Rattle.drawing.specs.Drawing.{outerGroup, refusal, reading, drawingOf, file as fileLayout}
+use Rattle.drawing.specs.Table.{wordsOf, rowsAll, bodies}
 use Rattle.fields.specs.declared.Kind.the-variants as Kind
 use Rattle.fields.specs.declared.turn.Turn.{Turn}
 use Rattle.fields.specs.declared.turn.Turn.the-variants as Turn

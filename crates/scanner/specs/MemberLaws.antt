@@ -1,20 +1,19 @@
 -- The laws of scanning a group: its members one after another, each as what is left comes to the same; and then the group's own end.
-use mathlib.Core.Path.{_≡_, refl, sym, ap, subst, _∙_}
+use mathlib.Core.Path.{_≡_, refl, sym, ap, _∙_}
 use Prim.Native.Nat.{ℕ, zero, suc, _+_, _-_, _<_, _≤_}
 use native.Mathlib.Nat as Nat
 use native.Mathlib.Omega.{arith}
-use mathlib.Core.List.{List, [], _∷_, _++_}
+use mathlib.Core.List.{List, _∷_, _++_}
 use lib.ListN.{length, drop, getD, length-append}
 use mir.Syntax.{w8}
 use mir.Val.{Fits}
 use Rattle.format.specs.Codec.{Outcome, found, refused, andThen}
-use Rattle.format.specs.Layout.{Layout, repeat, parse}
+use Rattle.format.specs.Layout.{repeat, parse}
 use Rattle.format.specs.TranslateLaws.{parse-threaded}
 use Rattle.drawing.specs.Codecs.{bytes, byteFields}
 use Rattle.drawing.specs.Fields.{memberCount}
 use Rattle.drawing.specs.String.{String}
 use Rattle.drawing.specs.Object.{Object, group, Objects, ofList, listOf}
-use Rattle.drawing.specs.ObjectLaws.{list-of-list}
 use Rattle.drawing.specs.LeafLayout.{objectEnd}
 use Rattle.drawing.specs.ObjectLayout.{object, groupBody}
 use Rattle.drawing.specs.Table.{wordsOf, groupWords, rows, rowsAll, bodies, bodiesAll}
@@ -25,11 +24,11 @@ use Rattle.fields.specs.Kinds.{kindOf}
 use Rattle.fields.specs.Turn.{Turned}
 use Rattle.scanner.specs.declared.Scan.{Scan}
 use Rattle.scanner.specs.declared.Scan.the-variants as Scan
-use Rattle.scanner.specs.Scans.{Within, scanOf, ScannedBody}
+use Rattle.scanner.specs.Scans.{scanOf, ScannedBody}
 use Rattle.scanner.specs.ScanLaws.{place-of}
-use Rattle.scanner.specs.ObjectScans.{Placed, counted, Ended, Scanned, ScannedObject, ScannedMembers, ScannedGroup}
+use Rattle.scanner.specs.ObjectScans.{Placed, counted, ScannedObject, ScannedMembers, ScannedGroup}
 use Rattle.laws.specs.ParseLaws.{group-parse}
-use Rattle.scanner.specs.ObjectScanLaws.{Passed, passed, Stopped, stopped, ended-body, ended-later}
+use Rattle.scanner.specs.ObjectScanLaws.{Passed, passed, Stopped, stopped, ended-body}
 
 -- ---- members
 

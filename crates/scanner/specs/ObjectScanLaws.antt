@@ -1,13 +1,12 @@
 -- The laws of scanning an object: what a scan says of parsing, and by its id an object is a leaf or a group.
 use mathlib.Core.Path.{_≡_, refl, sym, ap, subst, _∙_}
-use mathlib.Core.Bool.{true, false}
+use mathlib.Core.Bool.{true}
 use Prim.Native.Nat.{ℕ, zero, suc, _+_, _-_, _<_, _≤_}
 use Prim.Native.Char.{code}
-use native.Mathlib.Nat as Nat
 use native.Mathlib.Omega.{arith}
-use mathlib.Core.List.{List, [], _∷_, _++_}
+use mathlib.Core.List.{List}
 use lib.Dec.{ltb}
-use lib.ListN.{length, drop, getD, length-append}
+use lib.ListN.{length, drop, getD}
 use mir.Syntax.{w8}
 use mir.Val.{Fits}
 use borrow.Author.Tests.{ltb-true, lt-ltb}
@@ -16,16 +15,15 @@ use Rattle.format.specs.LeafLaws.{below-drop, known-below}
 use Rattle.format.specs.Codec.{Outcome, found, refused, andThen}
 use Rattle.format.specs.FixedLayoutLaws.{parsed-good}
 use Rattle.format.specs.AlternativeLaws.{told-tells}
-use Rattle.format.specs.Layout.{Layout, repeat, parse}
+use Rattle.format.specs.Layout.{Layout, parse}
 use Rattle.drawing.specs.Codecs.{bytes, byteFields}
-use Rattle.drawing.specs.Fields.{memberCount, objectId}
+use Rattle.drawing.specs.Fields.{objectId}
 use Rattle.drawing.specs.String.{String}
-use Rattle.drawing.specs.Object.{Leaf, Object, leaf, group, Objects, ofList, listOf}
+use Rattle.drawing.specs.Object.{Leaf, leaf, group, Objects}
 use Rattle.drawing.specs.ObjectId.{leafLetter}
-use Rattle.drawing.specs.ObjectLaws.{list-of-list}
-use Rattle.drawing.specs.LeafLayout.{pathCase, otherCases, isLeaf, leafBody, objectEnd}
+use Rattle.drawing.specs.LeafLayout.{pathCase, otherCases, isLeaf, leafBody}
 use Rattle.drawing.specs.ObjectLayout.{object, groupBody}
-use Rattle.drawing.specs.Table.{wordsOf, leafWords, groupWords, rows, rowsAll, bodies, bodiesAll}
+use Rattle.drawing.specs.Table.{wordsOf, rows, rowsAll, bodies}
 use Rattle.laws.specs.CodecLaws.{bytes-sensible, bytes-literal}
 use Rattle.fields.specs.declared.Kind.the-variants as Kind
 use Rattle.fields.specs.declared.turn.Turn.{Turn}
@@ -36,8 +34,8 @@ use Rattle.scanner.specs.declared.Scan.{Scan}
 use Rattle.scanner.specs.declared.Scan.the-variants as Scan
 use Rattle.scanner.specs.Scans.{Within, scanOf, EndsWithin, ScannedBody}
 use Rattle.scanner.specs.ScanLaws.{place-of}
-use Rattle.scanner.specs.ObjectScans.{Placed, counted, Ended, Scanned, ScannedObject, ScannedMembers, ScannedGroup}
-use Rattle.laws.specs.ParseLaws.{Behind, behind, leaf-id, group-id, idKind, object-refused, object-leaf, object-group, group-parse}
+use Rattle.scanner.specs.ObjectScans.{Placed, counted, Ended, ScannedObject, ScannedGroup}
+use Rattle.laws.specs.ParseLaws.{Behind, behind, leaf-id, group-id, idKind, object-refused, object-leaf, object-group}
 
 sub-one : (n : ℕ) → suc n - 1 ≡ n
 sub-one n = omega arith

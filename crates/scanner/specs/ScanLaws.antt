@@ -20,7 +20,7 @@ use Rattle.laws.specs.CodecLaws.{bytes-sensible, bytes-literal}
 use Rattle.laws.specs.SizeLaws.{words-few}
 use Rattle.passes.specs.declared.Pass.{Pass}
 use Rattle.passes.specs.Carries.{Laid}
-use Rattle.passes.specs.Landings.{Landed, Failed, Lands, lands}
+use Rattle.passes.specs.Landings.{Lands, lands}
 use Rattle.scanner.specs.declared.Scan.{Scan}
 use Rattle.scanner.specs.declared.Scan.the-variants as Scan
 use Rattle.scanner.specs.Scans.{Within, scanOf, scanBy, EndsWithin, ScannedBody}

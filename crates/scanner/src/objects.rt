@@ -5,7 +5,7 @@ use crate::body::scan_leaf;
 use fields::Kind;
 use fields::turn::Turn;
 use fields::turn::turn_at;
-ghost use Prim.Native.Nat.{_+_, _*_};
+ghost use Prim.Native.Nat.{_+_};
 ghost use lib.ListN.{length};
 ghost use Rattle.scanner.specs.ObjectScans.{Placed, ScannedObject, ScannedMembers, ScannedGroup};
 

@@ -14,7 +14,7 @@ use Rattle.drawing.specs.Codecs.{bytes}
 use Rattle.drawing.specs.Table.{wordsOf}
 use Rattle.passes.specs.declared.Pass.{Pass}
 use Rattle.passes.specs.Carries.{Laid}
-use Rattle.passes.specs.Landings.{Landed, Lands, lands}
+use Rattle.passes.specs.Landings.{Lands, lands}
 use Rattle.store.specs.Bodies.{finish, Fits, Storable, StoredBody}
 
 module _ {A : Type 0} {L : Layout A} {file m m′ : List ℕ} (known : (i : ℕ) → Val.Fits w8 (getD file i 0)) {at to : ℕ} (storable : Storable L file at (length m) to) {p : Pass} where

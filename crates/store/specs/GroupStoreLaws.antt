@@ -1,10 +1,10 @@
 -- The laws of storing a group: its members, behind them its count and its end, and last its row.
 use mathlib.Core.Path.{_≡_, refl, sym, ap, ap₂, subst, _∙_}
-use Prim.Native.Nat.{ℕ, zero, suc, _+_, _-_, _*_, _^_, _<_, _≤_}
+use Prim.Native.Nat.{ℕ, suc, _+_, _-_, _*_, _^_, _≤_}
 use native.Mathlib.Nat as Nat
 use native.Mathlib.Numerals.{add-one}
 use native.Mathlib.Omega.{arith}
-use mathlib.Core.List.{List, [], _∷_, _++_, append-assoc}
+use mathlib.Core.List.{List, _++_, append-assoc}
 use lib.ListN.{length, take, drop, getD, length-append, length-drop}
 use lib.Seq.{drop-drop}
 use mir.Syntax.{w8}
@@ -14,15 +14,15 @@ use Rattle.format.specs.LeafLaws.{below-drop, known-below}
 use Rattle.format.specs.Codec.{Outcome, found, refused, andThen}
 use Rattle.format.specs.FormatLaws.{each-length}
 use Rattle.format.specs.FixedLayoutLaws.{parsed-good}
-use Rattle.format.specs.Layout.{Layout, parse, repeat}
+use Rattle.format.specs.Layout.{parse, repeat}
 use Rattle.drawing.specs.Codecs.{bytes, byteFields}
 use Rattle.drawing.specs.Limits.{lengthLimit}
 use Rattle.drawing.specs.Fields.{memberCount}
 use Rattle.drawing.specs.String.{String}
-use Rattle.drawing.specs.Object.{Object, group, Objects, ofList, listOf}
+use Rattle.drawing.specs.Object.{Object, group, ofList, listOf}
 use Rattle.drawing.specs.ObjectLaws.{list-of-list}
 use Rattle.drawing.specs.LeafLayout.{objectEnd}
-use Rattle.drawing.specs.ObjectLayout.{object, groupBody}
+use Rattle.drawing.specs.ObjectLayout.{object}
 use Rattle.drawing.specs.Table.{wordsOf, groupKind, groupWords, rowWidth, row as rowWords, rows, rowsAll, bodies, bodiesAll, contents, contentsAll}
 use Rattle.laws.specs.CodecLaws.{bytes-sensible, bytes-literal}
 use Rattle.laws.specs.OrderLaws.{contents-length-all}
@@ -31,11 +31,11 @@ use Rattle.laws.specs.ParseLaws.{Behind, behind, group-parse}
 use Rattle.store.specs.declared.Cursor.{Cursor}
 use Rattle.store.specs.declared.Reach.{Reach}
 use Rattle.store.specs.Bodies as Body
-use Rattle.store.specs.Bodies.{Finish, finish, Fits, StoredBody}
+use Rattle.store.specs.Bodies.{finish, Fits, StoredBody}
 use Rattle.format.specs.Pass.{splice}
 use Rattle.format.specs.SpliceLaws.{splice-behind, splice-before, length-splice}
 use Rattle.laws.specs.ReadingLaws.{Read, read-found}
-use Rattle.store.specs.ObjectStores.{Table, tabled, RoomFor, Storable, Stored, groupAt, membersAt, objectRows, memberRows, StorableObject, StorableMembers, StoredObject, StoredMembers}
+use Rattle.store.specs.ObjectStores.{tabled, RoomFor, Storable, groupAt, membersAt, objectRows, memberRows, StorableObject, StorableMembers, StoredObject, StoredMembers}
 use Rattle.store.specs.MemberStoreLaws.{same-table}
 
 module _ (file : List ℕ) (known : (i : ℕ) → Val.Fits w8 (getD file i 0)) (v deep at row to : ℕ) (cs bs : List ℕ)

@@ -1,34 +1,32 @@
 -- The laws of storing an object: by its letter it is a leaf, whose body is stored and then its row, or a group.
 use mathlib.Core.Path.{_≡_, refl, sym, ap, ap₂, subst, _∙_}
-use mathlib.Core.Bool.{Bool, true, false, cond}
+use mathlib.Core.Bool.{true}
 use Prim.Native.Nat.{ℕ, zero, suc, _+_, _-_, _*_, _<_, _≤_}
 use Prim.Native.Char.{code}
 use native.Mathlib.Nat as Nat
-use native.Mathlib.Numerals.{add-one}
 use native.Mathlib.Omega.{arith}
-use mathlib.Core.List.{List, [], _∷_, _++_}
-use lib.Dec.{eqb, ltb}
-use lib.ListN.{length, take, drop, getD, length-append, length-drop}
+use mathlib.Core.List.{List}
+use lib.Dec.{ltb}
+use lib.ListN.{length, take, drop, getD, length-drop}
 use lib.Seq.{drop-drop}
 use mir.Syntax.{w8}
 use mir.Val as Val
 use borrow.Author.Tests.{ltb-true, lt-ltb}
 use Rattle.format.specs.Digits.{Below, number}
-use Rattle.format.specs.Kind.{Allowed, size}
+use Rattle.format.specs.Kind.{Allowed}
 use Rattle.format.specs.LeafLaws.{below-drop, known-below}
 use Rattle.format.specs.Codec.{Outcome, found, refused, andThen, Explained}
 use Rattle.format.specs.FixedCodecLaws.{fixed-lawful}
 use Rattle.format.specs.FixedLayoutLaws.{parsed-good}
 use Rattle.format.specs.AlternativeLaws.{told-tells}
-use Rattle.format.specs.Layout.{Layout, parse}
+use Rattle.format.specs.Layout.{parse}
 use Rattle.drawing.specs.Codecs.{bytes, byteFields}
 use Rattle.drawing.specs.Limits.{lengthLimit}
 use Rattle.drawing.specs.Fields.{objectId}
 use Rattle.drawing.specs.String.{String}
-use Rattle.drawing.specs.Object.{Leaf, Object, leaf, group}
+use Rattle.drawing.specs.Object.{Leaf, leaf}
 use Rattle.drawing.specs.ObjectId.{leafLetter}
 use Rattle.drawing.specs.LeafLayout.{pathCase, otherCases, isLeaf, leafBody}
-use Rattle.drawing.specs.ObjectLayout.{object}
 use Rattle.drawing.specs.Table.{wordsOf, leafKind, leafWords, rows, bodies, rowWidth, row as rowWords, contents}
 use Rattle.laws.specs.CodecLaws.{bytes-sensible, bytes-literal}
 use Rattle.scanner.specs.Scans.{wordsAt}
@@ -36,12 +34,12 @@ use Rattle.laws.specs.ParseLaws.{leaf-id, group-id, idKind, object-refused, obj
 use Rattle.store.specs.declared.Cursor.{Cursor}
 use Rattle.store.specs.declared.Reach.{Reach}
 use Rattle.store.specs.Bodies as Body
-use Rattle.store.specs.Bodies.{Finish, finish, Fits, StoredBody}
+use Rattle.store.specs.Bodies.{finish, Fits, StoredBody}
 use Rattle.format.specs.Pass.{splice}
 use Rattle.format.specs.SpliceLaws.{length-splice}
 use Rattle.laws.specs.ReadingLaws.{Read, read-found}
 use Rattle.store.specs.Rows.{kindByLetter, leaf-kind}
-use Rattle.store.specs.ObjectStores.{Table, tabled, RoomFor, Storable, Stored, objectAt, groupAt, objectRows, StorableObject, StoredObject}
+use Rattle.store.specs.ObjectStores.{tabled, RoomFor, Storable, objectAt, groupAt, objectRows, StorableObject, StoredObject}
 
 -- ---- an allowed id stands at the place
 

@@ -2,7 +2,7 @@
 use native.Mathlib.Omega.{arith}
 use mathlib.Core.Path.{refl}
 use borrow.Author.Needs.{needs}
-use Rattle.reader.specs.FillLaws.{chars-inside, version-small, word-room, settings-storable, id-inside, group-storable, filled}
+use Rattle.reader.specs.FillLaws.{chars-inside, version-small, settings-storable, id-inside, group-storable, filled}
 use Rattle.reader.proofs.store_file.Statement.{statement}
 use Rattle.reader.proofs.store_file.Tie as tie
 
