@@ -9,7 +9,7 @@ use mir.Syntax.{w8}
 use mir.Val.{Fits}
 use Rattle.format.specs.Codec.{Outcome, found, refused, andThen}
 use Rattle.format.specs.Layout.{repeat, parse}
-use Rattle.format.specs.TranslateLaws.{parse-threaded}
+use Rattle.format.specs.ParsingLaws.{parse-threaded}
 use Rattle.drawing.specs.Codecs.{bytes, byteFields}
 use Rattle.drawing.specs.Fields.{memberCount}
 use Rattle.drawing.specs.String.{String}

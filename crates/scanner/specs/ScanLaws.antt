@@ -3,8 +3,8 @@ use mathlib.Core.Path.{_≡_, refl, sym, ap, subst, _∙_}
 use mathlib.Core.Bool.{false}
 use Prim.Native.Nat.{ℕ, zero, suc, _+_, _-_, _<_, _≤_}
 use native.Mathlib.Omega.{arith}
-use mathlib.Core.List.{List, _++_}
-use lib.ListN.{length, drop, getD, length-append, length-drop}
+use mathlib.Core.List.{List}
+use lib.ListN.{length, drop, getD, length-drop}
 use mir.Syntax.{w8}
 use mir.Val.{Fits}
 use Rattle.format.specs.Digits.{Below}
@@ -12,7 +12,8 @@ use Rattle.format.specs.LeafLaws.{below-drop, known-below}
 use Rattle.format.specs.Codec.{Outcome, found, refused, andThen}
 use Rattle.format.specs.FixedCodec.{spellFixed}
 use Rattle.format.specs.FixedCodecLaws.{fault-positive}
-use Rattle.format.specs.FixedLayoutLaws.{parsed-good, refused-stopped}
+use Rattle.format.specs.FixedLayoutLaws.{refused-stopped}
+use Rattle.format.specs.ParsingLaws.{parsed-length}
 use Rattle.format.specs.Layout.{Layout, parse, encode}
 use Rattle.drawing.specs.Codecs.{bytes, byteFields}
 use Rattle.drawing.specs.Table.{wordsOf}
@@ -46,8 +47,7 @@ module _ {A : Type 0} {L : Layout A} {file m m′ : List ℕ} (known : (i : ℕ)
       by : (o : Outcome A) → parse bytes L (drop at file) ≡ o → Lands L false file m m′ (record { number = 0; at = at; to = words }) p o → ScannedBody L file at rows words r
       by (found a rest) e landed =
           let front = encode (spellFixed byteFields) L a in
-          let split : drop at file ≡ front ++ rest = parsed-good byteFields bytes-sensible bytes-literal L (drop at file) below a rest e .1 in
-          let long : length file - at ≡ length front + length rest = sym (length-drop at file) ∙ ap length split ∙ length-append front rest in
+          let long : length file - at ≡ length front + length rest = sym (length-drop at file) ∙ parsed-length byteFields bytes-sensible bytes-literal L (drop at file) below a rest e in
           let few : length (wordsOf L a) ≤ length front = words-few L a in
           let done : r ≡ Scan.Done (length file - length rest) rows (words + length (wordsOf L a)) =
           is

@@ -10,7 +10,7 @@ use mir.Val as Val
 use Rattle.format.specs.LeafLaws.{known-below}
 use Rattle.format.specs.Codec.{Outcome, found, refused, andThen}
 use Rattle.format.specs.Layout.{parse, repeat}
-use Rattle.format.specs.TranslateLaws.{parse-threaded}
+use Rattle.format.specs.ParsingLaws.{parse-threaded}
 use Rattle.drawing.specs.Codecs.{bytes}
 use Rattle.drawing.specs.Object.{Object, ofList}
 use Rattle.drawing.specs.ObjectLayout.{object}
