@@ -1,5 +1,6 @@
--- The kinds of field in code: what they mean, and what reading one says.
+-- Kinds of field in code: what they mean, and what reading one says.
 pub mod Tests
+pub mod Letters
 pub mod Kinds
 pub mod SignedLaws
 pub mod Turn

@@ -1,7 +1,7 @@
 -- One field, read and judged at a place of some units, a file's bytes or a table's words: what the code's answer says.
 use mathlib.Core.Path.{_≡_}
-use mathlib.Core.Bool.{Bool, true, false, _||_}
-use Prim.Native.Nat.{ℕ, _+_, _<_, _≤_}
+use mathlib.Core.Bool.{Bool, _||_}
+use Prim.Native.Nat.{ℕ, _+_, _≤_}
 use mathlib.Core.List.{List}
 use lib.Dec.{eqb}
 use lib.ListN.{length, take, drop}
@@ -16,17 +16,6 @@ use Rattle.fields.specs.declared.turn.Turn.the-variants.{Value, Fault}
 abbrev pub isSize : ℕ → Bool
 isSize n = eqb n 1 || (eqb n 2 || (eqb n 4 || (eqb n 6 || eqb n 8)))
 
-abbrev pub isFlag : K.Shape → Bool
-isFlag K.flag = true
-isFlag K.byte = false
-isFlag K.char = false
-isFlag K.integer = false
-isFlag K.float = false
-isFlag K.double = false
-isFlag K.stringLength = false
-isFlag (K.stringChar last) = false
-isFlag (K.chars n) = false
-
 -- What the answer says that reading from the place comes to.
 abbrev pub turned : Fixed → List ℕ → ℕ → K.Kind → Turn → Outcome ℕ
 turned F us at k (Value v) = found v (drop (at + F .width (k .shape)) us)
@@ -38,13 +27,9 @@ pub record Stands (F : Fixed) (us : List ℕ) (at : ℕ) (k : K.Kind) (v : ℕ) 
   pub is : v ≡ number (F .base) (take (F .width (k .shape)) (drop at us))
   pub allowed : K.Allowed k v
 
-pub record Numbered (n : ℕ) : Type 0 where
-  pub positive : 0 < n
-  pub small : n < 32
-
 abbrev pub Beside : Fixed → List ℕ → ℕ → K.Kind → Turn → Type 0
 Beside F us at k (Value v) = Stands F us at k v
-Beside F us at k (Fault n) = Numbered n
+Beside F us at k (Fault n) = Unit {0}
 
 pub record Turned (F : Fixed) (us : List ℕ) (at : ℕ) (k : K.Kind) (t : Turn) : Type 0 where
   pub reads : fixed F .read k (drop at us) ≡ turned F us at k t

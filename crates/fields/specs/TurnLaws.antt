@@ -1,8 +1,8 @@
 -- What reading one field rests on: when the codec's reading is cut, is refused and finds a value.
 use mathlib.Core.Path.{_≡_, refl}
-use mathlib.Core.Bool.{true, false, cond, true≢false, false≢true}
+use mathlib.Core.Bool.{true, cond}
 use mathlib.Core.Option.{none, some}
-use Prim.Native.Nat.{ℕ, zero, suc, _+_, _-_, _^_, _<_, _≤_}
+use Prim.Native.Nat.{ℕ, zero, suc, _+_, _-_, _<_, _≤_}
 use native.Mathlib.Omega.{arith}
 use mathlib.Core.List.{List}
 use borrow.Author.Tests.{ltb-true, ne-eqb, eqb-true}
@@ -14,33 +14,10 @@ use Rattle.format.specs.Kind as K
 use Rattle.format.specs.FixedCodec.{fault, judged, splitAt, conclude, verdict, fixed, literal}
 use Rattle.format.specs.FixedCodecLaws.{splitAt-append, splitAt-short}
 use Rattle.fields.specs.declared.turn.Turn.the-variants.{Value, Fault}
-use Rattle.fields.specs.Turn.{isSize, isFlag, Numbered, Turned}
+use Rattle.fields.specs.Turn.{isSize, Turned}
 
 pub size-eight : (n : ℕ) → isSize n ≡ true → (n ≡ 1 → ⊥) → (n ≡ 2 → ⊥) → (n ≡ 4 → ⊥) → (n ≡ 6 → ⊥) → n ≡ 8
 size-eight n e one two four six = eqb-true n 8 (simp ne-eqb at e)
-
--- Only a flag has fewer values than its bytes can hold.
-pub flag-values : (s : K.Shape) → isFlag s ≡ true → K.values s ≡ 2
-flag-values K.flag e = refl
-flag-values K.byte e = absurd (false≢true e)
-flag-values K.char e = absurd (false≢true e)
-flag-values K.integer e = absurd (false≢true e)
-flag-values K.float e = absurd (false≢true e)
-flag-values K.double e = absurd (false≢true e)
-flag-values K.stringLength e = absurd (false≢true e)
-flag-values (K.stringChar last) e = absurd (false≢true e)
-flag-values (K.chars n) e = absurd (false≢true e)
-
-pub other-values : (s : K.Shape) → isFlag s ≡ false → K.values s ≡ 256 ^ K.size s
-other-values K.flag e = absurd (true≢false e)
-other-values K.byte e = refl
-other-values K.char e = refl
-other-values K.integer e = refl
-other-values K.float e = refl
-other-values K.double e = refl
-other-values K.stringLength e = refl
-other-values (K.stringChar last) e = refl
-other-values (K.chars n) e = refl
 
 judged-fault : (v n : ℕ) → (n ≡ 0 → ⊥) → judged v n ≡ fault n
 judged-fault v zero h = absurd (h refl)
@@ -48,10 +25,10 @@ judged-fault v (suc n) h = refl
 
 -- So it is in any codec in which a number stands for itself.
 module _ (base : ℕ) (width : K.Shape → ℕ) (missing meaningless : ℕ) (us : List ℕ) (at : ℕ) (k : K.Kind) where
-  pub turn-cut : length us - at < width (k .shape) → Numbered missing → Turned (literal base width missing meaningless) us at k (Fault missing)
-  turn-cut h numbered =
+  pub turn-cut : length us - at < width (k .shape) → Turned (literal base width missing meaningless) us at k (Fault missing)
+  turn-cut h =
       let short : length (drop at us) < width (k .shape) = rw length-drop h in
-      record { reads = rw (splitAt-short (drop at us) (width (k .shape)) short); beside = numbered }
+      record { reads = rw (splitAt-short (drop at us) (width (k .shape)) short); beside = tt }
 
   module _ (v : ℕ) (inside : at + width (k .shape) ≤ length us) (is : v ≡ number base (take (width (k .shape)) (drop at us))) where
     whole : fixed (literal base width missing meaningless) .read k (drop at us)
@@ -63,12 +40,8 @@ module _ (base : ℕ) (width : K.Shape → ℕ) (missing meaningless : ℕ) (us 
         let parts : splitAt n here ≡ some (take n here, drop n here) = rw take-append-drop at (splitAt-append (take n here) (drop n here) n (length-take-le n here room)) in
         rw (parts, ← is, drop-drop n at us)
 
-    pub turn-meaningless : ltb v (K.values (k .shape)) ≡ false → Numbered meaningless → Turned (literal base width missing meaningless) us at k (Fault meaningless)
-    turn-meaningless h numbered = record { reads = rw (whole, h); beside = numbered }
-
-    pub turn-fault : (n : ℕ) → ltb v (K.values (k .shape)) ≡ true → n ≡ k .fault v → (n ≡ 0 → ⊥) → n < 32 → Turned (literal base width missing meaningless) us at k (Fault n)
-    turn-fault n h e p small =
-        record { reads = rw (whole, h, ← e, judged-fault v n p); beside = record { positive = omega arith; small = small } }
+    pub turn-fault : (n : ℕ) → ltb v (K.values (k .shape)) ≡ true → n ≡ k .fault v → (n ≡ 0 → ⊥) → Turned (literal base width missing meaningless) us at k (Fault n)
+    turn-fault n h e p = record { reads = rw (whole, h, ← e, judged-fault v n p); beside = tt }
 
     pub turn-value : ltb v (K.values (k .shape)) ≡ true → k .fault v ≡ 0 → Turned (literal base width missing meaningless) us at k (Value v)
     turn-value h e =

@@ -1,20 +1,14 @@
--- What reading a field from words rests on: it is one word or two, and how many values a kind has follows from its size.
-use mathlib.Core.Path.{_≡_, refl, sym, ap, ap₂, _∙_}
+-- What reading a field from words rests on: it is one word or two.
+use mathlib.Core.Path.{_≡_, sym, ap, ap₂, _∙_}
 use mathlib.Core.Bool.{true, false}
 use Prim.Native.Nat.{ℕ, _+_, _*_, _/_, _^_, _<_, _≤_}
 use native.Mathlib.Omega.{arith, not-le}
 use mathlib.Core.List.{List, [], _∷_}
-use lib.Dec.{ltb}
 use lib.ListN.{length, take, drop, getD}
-use borrow.Author.Tests.{lt-ltb, ne-eqb}
+use borrow.Author.Tests.{ne-eqb}
 use Rattle.format.specs.Digits.{number}
-use Rattle.format.specs.Kind as K
 use Rattle.format.specs.LeafLaws.{field-one, field-add}
-use Rattle.fields.specs.declared.Kind.{Kind}
-use Rattle.fields.specs.Kinds.{kindOf}
-use Rattle.fields.specs.KindLaws.{readable}
-use Rattle.fields.specs.Turn.{isSize, isFlag, Numbered}
-use Rattle.fields.specs.TurnLaws.{size-eight, other-values}
+use Rattle.fields.specs.Turn.{isSize}
 
 -- The sizes of fields are from one to eight bytes.
 pub sized-bounds : (n : ℕ) → isSize n ≡ true → (0 < n) × (n ≤ 8)
@@ -45,9 +39,6 @@ sized-bounds n e = (omega (arith, few .0), omega (arith, few .1))
     few : (0 < n) × (n < 9)
     few = (not-le n 0 (λ h. none .0 (omega arith)), not-le 9 n (λ h. none .1 (omega arith)))
 
-pub size-bounds : (k : Kind) → (0 < K.size (kindOf k .shape)) × (K.size (kindOf k .shape) ≤ 8)
-size-bounds k = sized-bounds (K.size (kindOf k .shape)) (readable k .sized)
-
 module _ (s : List ℕ) (at wide : ℕ) (inside : at + (wide + 3) / 4 ≤ length s) where
   pub one-word : 0 < wide → wide ≤ 4 → getD s at 0 ≡ number (2 ^ 32) (take ((wide + 3) / 4) (drop at s))
   one-word least most =
@@ -64,11 +55,3 @@ module _ (s : List ℕ) (at wide : ℕ) (inside : at + (wide + 3) / 4 ≤ length
       let parts = field-add (2 ^ 32) s at 1 1 here in
       let sum : number (2 ^ 32) (take (1 + 1) (drop at s)) ≡ getD s at 0 * (2 ^ 32) ^ 1 + getD s (at + 1) 0 = parts ∙ ap₂ (λ a b. a * (2 ^ 32) ^ 1 + b) first second in
       is ∙ omega arith ∙ sym (ap (λ n. number (2 ^ 32) (take n (drop at s))) two ∙ sum)
-
--- A kind that is no flag has as many values as its bytes can hold.
-pub values-of : (s : K.Shape) (wide number : ℕ) → isFlag s ≡ false → wide ≡ K.size s → ltb number (256 ^ wide) ≡ ltb number (K.values s)
-values-of s wide number other is = ap (ltb number) (ap (λ n. 256 ^ n) is ∙ sym (other-values s other))
-
--- Whatever is wrong with a table is 16.
-pub sixteen : Numbered 16
-sixteen = record { positive = omega arith; small = omega arith }

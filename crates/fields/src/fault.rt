@@ -2,23 +2,15 @@
 ghost use mathlib.Core.Path.{_≡_};
 ghost use Prim.Native.Nat.{_<_};
 ghost use Rattle.format.specs.Kind.{values};
-ghost use Rattle.drawing.specs.Fields.{unless};
+ghost use Rattle.drawing.specs.Fields as F;
 ghost use Rattle.fields.specs.Kinds.{kindOf};
-ghost use Rattle.fields.specs.declared.Kind.the-variants.{Version, DashCount, MarkerId};
 use crate::Kind;
-use crate::floats::is_component;
-use crate::floats::is_hue;
-use crate::letters::closed_fault;
 use crate::letters::object_fault;
-use crate::letters::paint_fault;
-use crate::letters::plain_fault;
-use crate::letters::segment_fault;
 use crate::ranges::byte_within;
 use crate::ranges::word_reaches;
-use crate::ranges::word_within;
 
 pub fn unless(allowed: bool, number: u32) -> u32
-    ensures { λ r. ⌜ r ≡ unless allowed number ⌝ }
+    ensures { λ r. ⌜ r ≡ F.unless allowed number ⌝ }
 {
     if allowed {
         return 0;
@@ -28,7 +20,7 @@ pub fn unless(allowed: bool, number: u32) -> u32
 
 // the chars 1.0 to 1.4, each as one number
 pub fn version_fault(chars: u64) -> u32
-    ensures { λ r. ⌜ r ≡ kindOf Version .fault chars ⌝ }
+    ensures { λ r. ⌜ r ≡ F.versionChars .fault chars ⌝ }
 {
     if chars < 0x31_002e_0030 {
         return 4;
@@ -37,7 +29,7 @@ pub fn version_fault(chars: u64) -> u32
 }
 
 pub fn dash_fault(count: u32) -> u32
-    ensures { λ r. ⌜ r ≡ kindOf DashCount .fault count ⌝ }
+    ensures { λ r. ⌜ r ≡ F.dashCount .fault count ⌝ }
 {
     if word_reaches(0, count) {
         return unless(count % 2 == 0, 8);
@@ -47,7 +39,7 @@ pub fn dash_fault(count: u32) -> u32
 
 pub fn marker_fault(high: u32, more: bool, id: u32) -> u32
     requires { ⌜ id < 256 ⌝ }
-    ensures { λ r. ⌜ r ≡ kindOf (MarkerId high more) .fault id ⌝ }
+    ensures { λ r. ⌜ r ≡ F.markerId high more .fault id ⌝ }
 {
     if byte_within(0, high, id) {
         if more {
@@ -70,24 +62,6 @@ pub fn fault(kind: Kind, value: u64) -> u32
         Kind::Version => version_fault(value),
         Kind::OuterId => unless(value == 71, 7),
         Kind::ObjectId { deeper } => object_fault(deeper, value),
-        Kind::Flag => 0,
-        Kind::FlowFlag => unless(value == 0, 11),
-        Kind::Byte { low, high } => unless(byte_within(low, high, value as u32), 6),
-        Kind::Integer => 0,
-        Kind::IntegerTo(high) => unless(word_within(0, high, value as u32), 6),
-        Kind::FontSize => unless(word_reaches(0, value as u32), 6),
-        Kind::Count(least) => unless(word_reaches(least, value as u32), 8),
-        Kind::DashCount => dash_fault(value as u32),
-        Kind::StringLength(least) => unless(word_reaches(least, value as u32), 8),
-        Kind::PaintLetter(minor) => paint_fault(minor, value),
-        Kind::PlainLetter(minor) => plain_fault(minor, value),
-        Kind::ClosedLetter => closed_fault(value),
-        Kind::SegmentLetter => segment_fault(value),
-        Kind::MarkerId { high, more } => marker_fault(high, more, value as u32),
-        Kind::Float => 0,
-        Kind::Double => 0,
-        Kind::Component => unless(is_component(value), 9),
-        Kind::Hue => unless(is_hue(value), 9),
-        Kind::Joined(bits) => unless(value == bits, 12),
+        Kind::MemberCount => unless(word_reaches(1, value as u32), 8),
     }
 }

@@ -1,12 +1,13 @@
 // The letters that may stand at a place: the fault that any other is there.
 ghost use mathlib.Core.Path.{_≡_};
-ghost use Rattle.fields.specs.Kinds.{kindOf};
-ghost use Rattle.fields.specs.declared.Kind.the-variants.{ObjectId, PaintLetter, PlainLetter, ClosedLetter, SegmentLetter};
+ghost use Rattle.drawing.specs.Fields.{objectId};
+ghost use Rattle.drawing.specs.LeafLayout.{isLeaf};
+ghost use Rattle.fields.specs.Letters.{paintLetter, plainLetter, closedLetter, segmentLetter};
 use crate::fault::unless;
 
 // C R T, and from 1.4 on S Y
 pub fn plain_fault(minor: u32, letter: u64) -> u32
-    ensures { λ r. ⌜ r ≡ kindOf (PlainLetter minor) .fault letter ⌝ }
+    ensures { λ r. ⌜ r ≡ plainLetter minor .fault letter ⌝ }
 {
     match letter {
         67 => 0,
@@ -20,7 +21,7 @@ pub fn plain_fault(minor: u32, letter: u64) -> u32
 
 // a plain paint's, G, and from 1.3 on D
 pub fn paint_fault(minor: u32, letter: u64) -> u32
-    ensures { λ r. ⌜ r ≡ kindOf (PaintLetter minor) .fault letter ⌝ }
+    ensures { λ r. ⌜ r ≡ paintLetter minor .fault letter ⌝ }
 {
     match letter {
         71 => 0,
@@ -31,7 +32,7 @@ pub fn paint_fault(minor: u32, letter: u64) -> u32
 
 // a leaf's I P T, and a group's G where one may nest deeper
 pub fn object_fault(deeper: bool, letter: u64) -> u32
-    ensures { λ r. ⌜ r ≡ kindOf (ObjectId deeper) .fault letter ⌝ }
+    ensures { λ r. ⌜ r ≡ objectId (isLeaf 0) deeper .fault letter ⌝ }
 {
     match letter {
         73 => 0,
@@ -44,7 +45,7 @@ pub fn object_fault(deeper: bool, letter: u64) -> u32
 
 // C O
 pub fn closed_fault(letter: u64) -> u32
-    ensures { λ r. ⌜ r ≡ kindOf ClosedLetter .fault letter ⌝ }
+    ensures { λ r. ⌜ r ≡ closedLetter .fault letter ⌝ }
 {
     match letter {
         67 => 0,
@@ -55,7 +56,7 @@ pub fn closed_fault(letter: u64) -> u32
 
 // B L M
 pub fn segment_fault(letter: u64) -> u32
-    ensures { λ r. ⌜ r ≡ kindOf SegmentLetter .fault letter ⌝ }
+    ensures { λ r. ⌜ r ≡ segmentLetter .fault letter ⌝ }
 {
     match letter {
         66 => 0,

@@ -1,4 +1,4 @@
-// The kinds of field of a drawing, in code: what bytes a field has, and what is wrong with a value.
+// Single fields in code: what is wrong with a value, and those fields that are read one by one and not as part of a body.
 ghost use mathlib.Core.Path.{_≡_};
 ghost use Rattle.format.specs.Kind.{size};
 ghost use Rattle.fields.specs.Kinds.{kindOf};
@@ -10,31 +10,14 @@ pub mod ranges;
 pub mod turn;
 pub mod words;
 
+// The kinds of field that are read one by one: those of the head, the ids, and how many members a group has.
 pub enum Kind {
     Magic,
     VersionLength,
     Version,
     OuterId,
     ObjectId { deeper: bool },
-    Flag,
-    FlowFlag,
-    Byte { low: u32, high: u32 },
-    Integer,
-    IntegerTo(u32),
-    FontSize,
-    Count(u32),
-    DashCount,
-    StringLength(u32),
-    PaintLetter(u32),
-    PlainLetter(u32),
-    ClosedLetter,
-    SegmentLetter,
-    MarkerId { high: u32, more: bool },
-    Float,
-    Double,
-    Component,
-    Hue,
-    Joined(u64),
+    MemberCount,
 }
 
 // The bytes of a field.
@@ -47,24 +30,6 @@ pub fn size(kind: Kind) -> usize
         Kind::Version => 6,
         Kind::OuterId => 2,
         Kind::ObjectId { deeper: _ } => 2,
-        Kind::Flag => 1,
-        Kind::FlowFlag => 1,
-        Kind::Byte { low: _, high: _ } => 1,
-        Kind::Integer => 4,
-        Kind::IntegerTo(_) => 4,
-        Kind::FontSize => 4,
-        Kind::Count(_) => 4,
-        Kind::DashCount => 4,
-        Kind::StringLength(_) => 4,
-        Kind::PaintLetter(_) => 2,
-        Kind::PlainLetter(_) => 2,
-        Kind::ClosedLetter => 2,
-        Kind::SegmentLetter => 2,
-        Kind::MarkerId { high: _, more: _ } => 1,
-        Kind::Float => 4,
-        Kind::Double => 8,
-        Kind::Component => 4,
-        Kind::Hue => 4,
-        Kind::Joined(_) => 8,
+        Kind::MemberCount => 4,
     }
 }

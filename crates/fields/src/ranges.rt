@@ -50,12 +50,6 @@ pub fn byte_within(low: u32, high: u32, byte: u32) -> bool
     within(low, high, signed_byte(byte))
 }
 
-pub fn word_within(low: u32, high: u32, word: u32) -> bool
-    ensures { λ r. ⌜ r ≡ inRange low high (toZ w32 word) ⌝ }
-{
-    within(low, high, signed(word))
-}
-
 pub fn word_reaches(least: u32, word: u32) -> bool
     ensures { λ r. ⌜ r ≡ leZ (pos least) (toZ w32 word) ⌝ }
 {

@@ -19,8 +19,8 @@ pub mod LayoutLaws
 pub mod FixedLayoutLaws
 pub mod LeafLaws
 pub mod Pass
-pub mod Translate
-pub mod TranslateLaws
+pub mod Recode
+pub mod ParsingLaws
 pub mod LiteralLaws
 pub mod SpliceLaws
 pub mod PassLaws

@@ -21,7 +21,7 @@ use Rattle.format.specs.Script.{Script, end, ask, run, Ends}
 use Rattle.format.specs.Format.{Format, fields, script}
 use Rattle.format.specs.Layout.{Layout, parse, encode}
 use Rattle.format.specs.LeafLaws.{below-drop}
-use Rattle.format.specs.TranslateLaws.{followed, followed-script, ended}
+use Rattle.format.specs.ParsingLaws.{followed, followed-script, ended}
 use Rattle.format.specs.Pass.{Route, splice, put, Passed, onward, pass, _⟫_}
 use Rattle.format.specs.SpliceLaws.{splice-nil, length-splice, splice-behind}
 

@@ -18,8 +18,7 @@ use Rattle.format.specs.Format.{scriptMany}
 use Rattle.format.specs.Pass.{Route, splice, put, Passed, onward, pass}
 use Rattle.format.specs.SpliceLaws.{splice-nil, splice-behind}
 use Rattle.format.specs.PassLaws.{Placed, read-placed, length-put, put-fits, put-short}
-use Rattle.format.specs.Translate.{recoded}
-use Rattle.format.specs.TranslateLaws.{length-recoded}
+use Rattle.format.specs.Recode.{recoded, length-recoded}
 
 -- ---- the memory
 

@@ -7,8 +7,7 @@ use passes::Pass;
 use passes::Took;
 use passes::field::field;
 use passes::field::judged;
-ghost use Rattle.fields.specs.Kinds.{kindOf};
-ghost use Rattle.fields.specs.declared.Kind.the-variants.{PaintLetter, PlainLetter, ClosedLetter, SegmentLetter};
+ghost use Rattle.fields.specs.Letters.{paintLetter, plainLetter, closedLetter, segmentLetter};
 ghost use Rattle.passes.specs.Carries.{Begins, Asks};
 
 pub fn paint_letter(
@@ -21,7 +20,7 @@ pub fn paint_letter(
     version: u32,
 ) -> Took
     requires { ⌜ Begins reverse (now file) (now words) p ⌝ }
-    ensures { λ r. ⌜ Asks (kindOf (PaintLetter version)) reverse (now (file .entry)) (now (words .entry)) (now (bodies .entry)) (now (out .entry)) (now (bodies .exit)) (now (out .exit)) p r ⌝ }
+    ensures { λ r. ⌜ Asks (paintLetter version) reverse (now (file .entry)) (now (words .entry)) (now (bodies .entry)) (now (out .entry)) (now (bodies .exit)) (now (out .exit)) p r ⌝ }
 {
     let taken = field(file, words, bodies, out, reverse, p, 2, 0, 65535, 7);
     let value = taken.value;
@@ -43,7 +42,7 @@ pub fn plain_letter(
     version: u32,
 ) -> Took
     requires { ⌜ Begins reverse (now file) (now words) p ⌝ }
-    ensures { λ r. ⌜ Asks (kindOf (PlainLetter version)) reverse (now (file .entry)) (now (words .entry)) (now (bodies .entry)) (now (out .entry)) (now (bodies .exit)) (now (out .exit)) p r ⌝ }
+    ensures { λ r. ⌜ Asks (plainLetter version) reverse (now (file .entry)) (now (words .entry)) (now (bodies .entry)) (now (out .entry)) (now (bodies .exit)) (now (out .exit)) p r ⌝ }
 {
     let taken = field(file, words, bodies, out, reverse, p, 2, 0, 65535, 7);
     let value = taken.value;
@@ -64,7 +63,7 @@ pub fn closed_letter(
     p: Pass,
 ) -> Took
     requires { ⌜ Begins reverse (now file) (now words) p ⌝ }
-    ensures { λ r. ⌜ Asks (kindOf ClosedLetter) reverse (now (file .entry)) (now (words .entry)) (now (bodies .entry)) (now (out .entry)) (now (bodies .exit)) (now (out .exit)) p r ⌝ }
+    ensures { λ r. ⌜ Asks closedLetter reverse (now (file .entry)) (now (words .entry)) (now (bodies .entry)) (now (out .entry)) (now (bodies .exit)) (now (out .exit)) p r ⌝ }
 {
     let taken = field(file, words, bodies, out, reverse, p, 2, 0, 65535, 7);
     let value = taken.value;
@@ -85,7 +84,7 @@ pub fn segment_letter(
     p: Pass,
 ) -> Took
     requires { ⌜ Begins reverse (now file) (now words) p ⌝ }
-    ensures { λ r. ⌜ Asks (kindOf SegmentLetter) reverse (now (file .entry)) (now (words .entry)) (now (bodies .entry)) (now (out .entry)) (now (bodies .exit)) (now (out .exit)) p r ⌝ }
+    ensures { λ r. ⌜ Asks segmentLetter reverse (now (file .entry)) (now (words .entry)) (now (bodies .entry)) (now (out .entry)) (now (bodies .exit)) (now (out .exit)) p r ⌝ }
 {
     let taken = field(file, words, bodies, out, reverse, p, 2, 0, 65535, 7);
     let value = taken.value;

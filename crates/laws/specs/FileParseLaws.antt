@@ -7,7 +7,7 @@ use lib.Dec.{eqb}
 use Rattle.format.specs.Kind.{Kind, Allowed}
 use Rattle.format.specs.Codec.{Outcome, found, refused, andThen}
 use Rattle.format.specs.Layout.{Layout, field, constant, renamed, parse, _&_, _▸_}
-use Rattle.format.specs.TranslateLaws.{parse-field, parse-implied, parse-renamed, parse-pair, andThen-same}
+use Rattle.format.specs.ParsingLaws.{parse-field, parse-implied, parse-renamed, parse-pair, andThen-same}
 use Rattle.drawing.specs.Codecs.{bytes}
 use Rattle.drawing.specs.Limits.{depthLimit}
 use Rattle.drawing.specs.Fields.{magic, jdr, versionLength, versionChars, versionZero, charWhere}

@@ -17,7 +17,7 @@ use Rattle.format.specs.FixedCodec.{spellFixed}
 use Rattle.format.specs.FixedLayoutLaws.{parsed-good}
 use Rattle.format.specs.Layout.{Layout, field, either, renamed, counted, repeat, parse, encode}
 use Rattle.format.specs.FormatLaws.{each-length}
-use Rattle.format.specs.TranslateLaws.{andThen-andThen, parse-field, parse-implied, parse-either, parse-case, parse-renamed, parse-pair, parse-threaded, andThen-same}
+use Rattle.format.specs.ParsingLaws.{andThen-andThen, parse-field, parse-implied, parse-either, parse-case, parse-renamed, parse-pair, parse-threaded, andThen-same}
 use Rattle.drawing.specs.Codecs.{bytes, byteFields}
 use Rattle.drawing.specs.Fields.{memberCount, objectFault, objectId, unless}
 use Rattle.drawing.specs.String.{String}

@@ -13,8 +13,7 @@ use Rattle.format.specs.Layout.{Layout, field, nothing, either, repeat, threade
 use Rattle.format.specs.Pass.{_⟫_}
 use Rattle.drawing.specs.Fields as F
 use Rattle.drawing.specs.Path.{Point, Segment, point, twoDoubles, joinedPoint, segment, endOf}
-use Rattle.fields.specs.Kinds.{kindOf}
-use Rattle.fields.specs.declared.Kind.the-variants.{SegmentLetter}
+use Rattle.fields.specs.Letters.{segmentLetter}
 use Rattle.passes.specs.declared.Pass.{Pass}
 use Rattle.passes.specs.declared.Took.{Took}
 use Rattle.passes.specs.Passes.{behind, Ready}
@@ -32,8 +31,8 @@ controls letter = either (eqb letter 76) (nothing []) (either (eqb letter 77) (n
 
 -- A segment with a start of its own is its letter, its start, its control points and its end.
 pub own-segment : (next : Point → Script (Unit {0})) (at : Option Point)
-    → script (segment true at .format) (λ s. next (endOf s)) ≡ ask (kindOf SegmentLetter) (λ c. joinedPoint at ⟫ controls c ⟫ endThen next)
-own-segment next at = ap (ask (kindOf SegmentLetter)) (fun-ext (λ c. by (eqb c 76) (eqb c 77)))
+    → script (segment true at .format) (λ s. next (endOf s)) ≡ ask segmentLetter (λ c. joinedPoint at ⟫ controls c ⟫ endThen next)
+own-segment next at = ap (ask segmentLetter) (fun-ext (λ c. by (eqb c 76) (eqb c 77)))
   where
     by : (l m : Bool)
         → cond l (joinedPoint at ⟫ endThen next) (cond m (joinedPoint at ⟫ endThen next) (joinedPoint at ⟫ repeat 4 (field F.double) ⟫ endThen next))
@@ -64,7 +63,7 @@ module _ {t : Bool} {us m m′ : List ℕ} {q : Pass} {r : Ended} where
 
 -- A segment's letter, start, control points and end, passed one behind another.
 pub segment-ends : (at : Option Point) {t : Bool} {us m₀ m₁ m₂ m₃ m₄ m₅ : List ℕ} {p s c : Pass} {letter x y : Took}
-    → Asked (kindOf SegmentLetter) t us m₀ m₁ p letter
+    → Asked segmentLetter t us m₀ m₁ p letter
     → Laid (joinedPoint at .format) t us m₁ m₂ (letter .pass) s
     → Laid (controls (letter .value) .format) t us m₂ m₃ s c
     → Asked F.double t us m₃ m₄ c x

@@ -12,7 +12,7 @@ use Rattle.format.specs.Digits.{Below}
 use Rattle.format.specs.LeafLaws.{below-drop}
 use Rattle.format.specs.Pass.{splice}
 use Rattle.format.specs.SpliceLaws.{splice-nil}
-use Rattle.format.specs.Translate.{recoded}
+use Rattle.format.specs.Recode.{recoded}
 use Rattle.format.specs.RunLaws.{putMany, many-fit, recoded-halves}
 use Rattle.passes.specs.Sizes.{isRun}
 use Rattle.passes.specs.StoreLaws.{Room}

@@ -16,7 +16,7 @@ use Rattle.format.specs.Layout.{Layout, field, encode, parse}
 use Rattle.format.specs.Kind.{Kind, byte}
 use Rattle.format.specs.Script.{Script, ask}
 use Rattle.format.specs.LeafLaws.{below-drop}
-use Rattle.format.specs.TranslateLaws.{parse-field}
+use Rattle.format.specs.ParsingLaws.{parse-field}
 use Rattle.format.specs.Pass.{Route, Passed, onward, put, through, stopped, pass, splice, _⟫_, done}
 use Rattle.format.specs.PassLaws.{puts, pass-found, pass-refused, puts-fit}
 use Rattle.laws.specs.CodecLaws.{bytes-sensible, words-sensible}

@@ -8,8 +8,7 @@ use lib.ListN.{length, take, drop, getD, length-append}
 use lib.Seq.{drop-drop}
 use Rattle.format.specs.Digits.{number, digits}
 use Rattle.format.specs.DigitsLaws.{length-digits}
-use Rattle.format.specs.Translate.{recoded}
-use Rattle.format.specs.TranslateLaws.{length-recoded}
+use Rattle.format.specs.Recode.{recoded, length-recoded}
 use Rattle.format.specs.Pass.{splice}
 use Rattle.format.specs.SpliceLaws.{splice-nil, splice-behind, length-splice}
 

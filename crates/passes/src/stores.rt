@@ -7,7 +7,7 @@ ghost use mathlib.Core.Path.{_≡_};
 ghost use Prim.Native.Nat.{ℕ, _+_, _*_, _^_, _<_};
 ghost use lib.ListN.{length, drop, getD};
 ghost use Rattle.format.specs.Pass.{splice};
-ghost use Rattle.format.specs.Translate.{recoded};
+ghost use Rattle.format.specs.Recode.{recoded};
 ghost use Rattle.passes.specs.StoreLaws.{Room};
 
 pub fn store_chars(file: &[u8], from: usize, bodies: &mut [u32], to: usize, count: usize)

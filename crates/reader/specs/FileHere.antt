@@ -1,7 +1,7 @@
 -- The parts of a file that is read to a drawing, place by place: its version, its settings, its outer group, with which it ends.
 use mathlib.Core.Path.{_≡_, refl, sym, ap, subst, _∙_}
 use mathlib.Core.Bool.{Bool, true, false, cond}
-use Prim.Native.Nat.{ℕ, zero, suc, _+_, _-_, _<_, _≤_}
+use Prim.Native.Nat.{ℕ, _+_, _-_, _≤_}
 use Prim.Native.Char.{code}
 use native.Mathlib.Omega.{arith}
 use mathlib.Core.List.{List, [], _∷_}
@@ -10,9 +10,9 @@ use lib.ListN.{length, take, drop, getD, length-drop}
 use lib.Seq.{drop-drop}
 use mir.Syntax.{w8}
 use mir.Val as Val
-use borrow.Author.Tests.{ltb-false, ltb-true}
-use Rattle.format.specs.Digits.{Below, number}
-use Rattle.format.specs.Kind.{Kind, Allowed, size}
+use borrow.Author.Tests.{ltb-false}
+use Rattle.format.specs.Digits.{number}
+use Rattle.format.specs.Kind.{Kind, size}
 use Rattle.format.specs.LeafLaws.{below-drop, known-below}
 use Rattle.format.specs.Codec.{Outcome, found, refused, andThen, Explained}
 use Rattle.format.specs.FixedCodecLaws.{fixed-lawful}

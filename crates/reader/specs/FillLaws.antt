@@ -1,39 +1,31 @@
 -- The laws of the second pass over a whole file: the version's word, the settings, the outer group.
-use mathlib.Core.Path.{_≡_, refl, sym, ap, ap₂, subst, _∙_}
-use Prim.Native.Nat.{ℕ, zero, suc, _+_, _-_, _*_, _^_, _<_, _≤_}
+use mathlib.Core.Path.{_≡_, sym, ap, ap₂, subst, _∙_}
+use Prim.Native.Nat.{ℕ, suc, _+_, _-_, _*_, _^_, _≤_}
 use native.Mathlib.Nat as Nat
 use native.Mathlib.Omega.{arith}
-use mathlib.Core.List.{List, [], _∷_, _++_, append-assoc}
+use mathlib.Core.List.{List, [], _∷_, _++_}
 use lib.ListN.{length, take, drop, getD, length-append}
 use mir.Syntax.{w8}
 use mir.Val as Val
 use Rattle.format.specs.Digits.{number, digits}
-use Rattle.format.specs.LeafLaws.{below-drop, known-below}
-use Rattle.format.specs.Codec.{Outcome, found, refused, andThen}
-use Rattle.format.specs.FixedCodec.{spellFixed}
-use Rattle.format.specs.FixedCodecLaws.{fixed-lawful}
+use Rattle.format.specs.Codec.{found, andThen}
 use Rattle.format.specs.Layout.{parse}
-use Rattle.format.specs.TranslateLaws.{translate-alone}
-use Rattle.drawing.specs.Codecs.{bytes, byteFields, wordFields}
-use Rattle.drawing.specs.Limits.{lengthLimit, lastMinor}
+use Rattle.drawing.specs.Codecs.{bytes}
+use Rattle.drawing.specs.Limits.{lastMinor}
 use Rattle.drawing.specs.Fields.{versionZero}
 use Rattle.drawing.specs.Object.{group}
 use Rattle.drawing.specs.ObjectLayout.{object, groupBody}
 use Rattle.drawing.specs.Settings.{settings}
-use Rattle.drawing.specs.Drawing.{Drawing, outer, drawing, drawingOf}
-use Rattle.drawing.specs.Table.{rowWidth, wordsOf, rows, rowsAll, bodies, contents, headWords, contentsOf, bodiesOf}
+use Rattle.drawing.specs.Drawing.{Drawing, drawing, drawingOf}
+use Rattle.drawing.specs.Table.{rowWidth, wordsOf, rows, rowsAll, bodies, contents, contentsOf, bodiesOf}
 use Rattle.drawing.specs.Answers.{overwrite, rowsOf, wordCount}
-use Rattle.laws.specs.CodecLaws.{bytes-sensible}
-use Rattle.automaton.specs.declared.Expect.the-variants as Expect
-use Rattle.automaton.specs.declared.Settings.the-variants as SettingsState
-use Rattle.automaton.specs.Denote.{den}
-use Rattle.automaton.specs.Unfolds.{settings-state}
-use Rattle.scanner.specs.Runs.{inWords}
+use Rattle.scanner.specs.Scans.{wordsAt}
 use Rattle.store.specs.declared.Cursor.{Cursor}
 use Rattle.store.specs.declared.Reach.{Reach}
-use Rattle.store.specs.Splice as Body
-use Rattle.store.specs.Splice.{splice, finish, Fits, StoredBody}
-use Rattle.store.specs.SpliceLaws.{splice-behind, length-splice}
+use Rattle.store.specs.Bodies as Body
+use Rattle.store.specs.Bodies.{finish, Fits, StoredBody}
+use Rattle.format.specs.Pass.{splice}
+use Rattle.format.specs.SpliceLaws.{splice-behind, length-splice}
 use Rattle.store.specs.Rows.{word-digit}
 use Rattle.store.specs.ObjectStores.{tabled, RoomFor, groupAt, objectRows, StorableObject, StoredObject}
 use Rattle.reader.specs.FileHere.{Parts, parts}
@@ -96,18 +88,15 @@ module _ (file : List ℕ) (known : (i : ℕ) → Val.Fits w8 (getD file i 0)) (
       same-one : length bs₁ ≡ length bs
       same-one = ap length word ∙ length-splice 0 (digits (2 ^ 32) 1 (x - versionZero)) bs word-room
 
-      settings-words : inWords (den (x - versionZero) (Expect.Settings SettingsState.Which)) (drop 16 file) ≡ found W (drop (p .next) file)
-      settings-words =
-          ap (λ script. inWords script (drop 16 file)) (settings-state (x - versionZero))
-          ∙ translate-alone bytes (fixed-lawful byteFields bytes-sensible) (spellFixed wordFields) (settings (x - versionZero)) tt (drop 16 file) (below-drop 256 16 file (known-below w8 file known))
-          ∙ ap (λ o. andThen o (λ a rest. found (wordsOf (settings (x - versionZero)) a) rest)) settings-are
+      settings-words : wordsAt (settings (x - versionZero)) file 16 ≡ found W (drop (p .next) file)
+      settings-words = ap (λ o. andThen o (λ a rest. found (wordsOf (settings (x - versionZero)) a) rest)) settings-are
 
-      pub settings-storable : Body.Storable file (x - versionZero) (Expect.Settings SettingsState.Which) 16 (length bs₁) 1
+      pub settings-storable : Body.Storable (settings (x - versionZero)) file 16 (length bs₁) 1
       settings-storable =
           let fits : 1 + length W ≤ length bs₁ = omega (arith, words-sum, r .words-hold, same-one) in
-          record { short = p .short; inside = p .version-inside; fits = subst (Fits (length bs₁) 1) (sym settings-words) fits }
+          record { short = p .short; inside = p .version-inside; few = omega arith; fits = subst (Fits (length bs₁) 1) (sym settings-words) fits }
 
-      module _ (bs₂ : List ℕ) (cursor : Cursor) (body : StoredBody file (x - versionZero) (Expect.Settings SettingsState.Which) 16 1 bs₁ bs₂ cursor) where
+      module _ (bs₂ : List ℕ) (cursor : Cursor) (body : StoredBody (settings (x - versionZero)) file 16 1 bs₁ bs₂ cursor) where
         finished : record { memory = bs₂; at = cursor .at; to = cursor .to } ≡ finish (length file) 1 bs₁ (found W (drop (p .next) file))
         finished = body .says ∙ ap (finish (length file) 1 bs₁) settings-words
 

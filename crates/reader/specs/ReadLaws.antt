@@ -1,8 +1,7 @@
 -- The laws of reading: what the first pass says decides the answer, and the second pass stores what the definition does.
 use mathlib.Core.Path.{_≡_, refl, sym, ap, ap₂, subst, _∙_}
 use mathlib.Core.Bool.{Bool, true, false, cond}
-use Prim.Native.Nat.{ℕ, zero, suc, _+_, _-_, _*_, _/_, _<_, _≤_}
-use native.Mathlib.Nat as Nat
+use Prim.Native.Nat.{ℕ, _-_, _*_, _/_, _<_, _≤_}
 use native.Mathlib.Omega.{arith}
 use mathlib.Core.List.{List, [], _∷_}
 use lib.Dec.{leb, ltb}
@@ -10,13 +9,12 @@ use lib.ListN.{length}
 use borrow.Author.Tests.{le-leb, lt-leb, ltb-false}
 use Rattle.format.specs.Codec.{Outcome, found, refused}
 use Rattle.format.specs.Layout.{parse}
-use Rattle.drawing.specs.declared.Answer.{Answer}
 use Rattle.drawing.specs.Codecs.{bytes}
 use Rattle.drawing.specs.Limits.{lengthLimit}
 use Rattle.drawing.specs.Fields.{unless, orElse}
 use Rattle.drawing.specs.Drawing.{Drawing, Reading, drawing, refusal, reading, drawingOf, file as fileLayout}
-use Rattle.drawing.specs.Table.{rowWidth, contentsOf, bodiesOf}
-use Rattle.drawing.specs.Answers.{answer, rowsOf, wordCount, ReadResult, roomFault, stored, readFrom, readResult, Reads, overwrite}
+use Rattle.drawing.specs.Table.{rowWidth}
+use Rattle.drawing.specs.Answers.{answer, rowsOf, wordCount, roomFault, stored, readFrom, readResult, Reads}
 use Rattle.scanner.specs.declared.Scan.{Scan}
 use Rattle.scanner.specs.declared.Scan.the-variants as Scan
 use Rattle.scanner.specs.FileScans.{fileScan, ScannedFile}

@@ -1,16 +1,12 @@
 // Reading a file into lent memory, in two passes: the first judges and counts, and stores nothing; the second stores, into memory now known to be
 // enough.
-use automaton::Expect;
-use automaton::Settings;
 use drawing::Answer;
 use fields::turn::value_at;
 use scanner::Scan;
 use scanner::file::scan_file;
-use store::body::store_body;
+use store::body::store_settings_body;
 use store::objects::store_group;
 use store::words::store_word;
-ghost use mathlib.Core.Path.{_≡_};
-ghost use lib.ListN.{length};
 ghost use Rattle.scanner.specs.declared.Scan.the-variants as Scan;
 ghost use Rattle.scanner.specs.FileScans.{ScannedFile};
 ghost use Rattle.drawing.specs.Answers.{Reads};
@@ -23,14 +19,7 @@ fn store_file(file: &[u8], contents: &mut [u32], bodies: &mut [u32])
 {
     let version = (value_at(file, 10, 6) - 0x31_002e_0030) as u32;
     store_word(bodies, 0, version);
-    let settings = store_body(
-        file,
-        version,
-        Expect::Settings(Settings::Which),
-        16,
-        bodies,
-        1,
-    );
+    let settings = store_settings_body(file, version, 16, bodies, 1);
     let at = settings.at;
     let to = settings.to;
     let outer = store_group(file, version, 15, at + 2, contents, 0, 0, bodies, to);

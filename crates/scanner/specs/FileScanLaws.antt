@@ -1,46 +1,40 @@
 -- The laws of scanning a file, from the outer group back to its beginning.
 use mathlib.Core.Path.{_≡_, refl, sym, ap, subst, _∙_}
 use mathlib.Core.Bool.{Bool, true, false, cond, _&&_}
-use Prim.Native.Nat.{ℕ, zero, suc, _+_, _-_, _<_, _≤_}
-use Prim.Native.Char.{code}
+use Prim.Native.Nat.{ℕ, suc, _+_, _-_, _<_, _≤_}
 use native.Mathlib.Nat as Nat
 use native.Mathlib.Numerals.{add-one}
 use native.Mathlib.Omega.{arith}
 use mathlib.Core.List.{List, [], _∷_, _++_}
-use lib.Dec.{eqb, ltb, leb}
+use lib.Dec.{leb}
 use lib.ListN.{length, drop, getD, length-append, length-drop}
 use mir.Syntax.{w8}
 use mir.Val.{Fits}
 use borrow.Author.Tests.{leb-true, le-ltb, lt-ltb}
 use Rattle.format.specs.Kind.{Allowed}
-use Rattle.format.specs.LeafLaws.{below-drop, known-below}
 use Rattle.format.specs.Codec.{Outcome, found, refused, andThen}
 use Rattle.format.specs.Layout.{Layout, parse}
 use Rattle.drawing.specs.Codecs.{bytes, byteFields}
 use Rattle.drawing.specs.Limits.{lengthLimit, lastMinor, depthLimit}
-use Rattle.drawing.specs.Fields.{charWhere, versionChars, versionZero}
+use Rattle.drawing.specs.Fields.{versionChars, versionZero}
 use Rattle.drawing.specs.FieldLaws.{unless-zero}
 use Rattle.drawing.specs.String.{String}
-use Rattle.drawing.specs.Object.{Object, group, Objects}
+use Rattle.drawing.specs.Object.{group, Objects}
 use Rattle.drawing.specs.ObjectLayout.{object, groupBody}
 use Rattle.drawing.specs.Settings.{Settings, settings}
-use Rattle.drawing.specs.Drawing.{Drawing, outerGroup, Reading, refusal, reading, drawingOf, file as fileLayout}
-use Rattle.drawing.specs.Table.{wordsOf, rowsAll, bodies, headWords}
+use Rattle.drawing.specs.Drawing.{outerGroup, refusal, reading, drawingOf, file as fileLayout}
+use Rattle.drawing.specs.Table.{wordsOf, rowsAll, bodies}
 use Rattle.fields.specs.declared.Kind.the-variants as Kind
 use Rattle.fields.specs.declared.turn.Turn.{Turn}
 use Rattle.fields.specs.declared.turn.Turn.the-variants as Turn
 use Rattle.fields.specs.Kinds.{kindOf}
 use Rattle.fields.specs.Turn.{Turned}
-use Rattle.automaton.specs.declared.Expect.the-variants as Expect
-use Rattle.automaton.specs.declared.Settings.the-variants as SettingsState
-use Rattle.automaton.specs.Unfolds.{settings-state}
 use Rattle.scanner.specs.declared.Scan.{Scan}
 use Rattle.scanner.specs.declared.Scan.the-variants as Scan
-use Rattle.scanner.specs.Runs.{inWords}
 use Rattle.scanner.specs.Scans.{Within, scanOf, EndsWithin, ScannedBody}
 use Rattle.scanner.specs.ScanLaws.{place-of}
 use Rattle.scanner.specs.ObjectScans.{Placed, counted, Ended, ScannedGroup}
-use Rattle.scanner.specs.ObjectScanLaws.{Passed, passed, Stopped, stopped, scan-layout}
+use Rattle.scanner.specs.ObjectScanLaws.{Passed, passed, Stopped, stopped}
 use Rattle.scanner.specs.FileScans.{fileScan, outerScan, ScannedOuter, ScannedSettings, ScannedVersion, ScannedFile}
 use Rattle.laws.specs.FileParseLaws.{outer-parse, file-parse, fromSettings, fromVersion}
 
@@ -139,12 +133,10 @@ outer-drawing total v words s (found (os, d) (b ∷ rest)) e = refl
 outer-drawing total v words s (refused n place) e = refl
 
 module _ (file : List ℕ) (known : (i : ℕ) → Fits w8 (getD file i 0)) (v at : ℕ) (within : Within (length file) at 1) (b : Scan)
-    (scanned : ScannedBody file v (Expect.Settings SettingsState.Which) at 0 1 b) where
+    (scanned : ScannedBody (settings v) file at 0 1 b) where
   as-parsed : b ≡ counted (λ a. 0) (λ a. length (wordsOf (settings v) a)) (length file) 0 1 (parse bytes (settings v) (drop at file))
   as-parsed =
       scanned .says
-      ∙ ap (λ script. scanOf (length file) 0 1 (inWords script (drop at file))) (settings-state v)
-      ∙ scan-layout (settings v) (length file) 0 1 (drop at file) (below-drop 256 at file (known-below w8 file known))
       ∙ body-counted (settings v) (length file) 0 1 (parse bytes (settings v) (drop at file))
 
   pub settings-stop : (n place : ℕ) → b ≡ Scan.Refused n place → ScannedSettings file v at (Scan.Refused n place)

@@ -1,9 +1,6 @@
-pub mod Runs
-pub mod RunLaws
 pub mod Scans
 pub mod ScanLaws
 pub mod ObjectScans
-pub mod BodyLaws
 pub mod ObjectScanLaws
 pub mod MemberLaws
 pub mod FileScans

@@ -1,22 +1,19 @@
 -- The laws of scanning a group: its members one after another, each as what is left comes to the same; and then the group's own end.
-use mathlib.Core.Path.{_≡_, refl, sym, ap, subst, _∙_}
+use mathlib.Core.Path.{_≡_, refl, sym, ap, _∙_}
 use Prim.Native.Nat.{ℕ, zero, suc, _+_, _-_, _<_, _≤_}
 use native.Mathlib.Nat as Nat
 use native.Mathlib.Omega.{arith}
-use mathlib.Core.List.{List, [], _∷_, _++_}
+use mathlib.Core.List.{List, _∷_, _++_}
 use lib.ListN.{length, drop, getD, length-append}
 use mir.Syntax.{w8}
 use mir.Val.{Fits}
-use Rattle.format.specs.Digits.{Below}
-use Rattle.format.specs.LeafLaws.{below-drop, known-below}
 use Rattle.format.specs.Codec.{Outcome, found, refused, andThen}
-use Rattle.format.specs.Layout.{Layout, repeat, parse}
-use Rattle.format.specs.TranslateLaws.{parse-threaded}
+use Rattle.format.specs.Layout.{repeat, parse}
+use Rattle.format.specs.ParsingLaws.{parse-threaded}
 use Rattle.drawing.specs.Codecs.{bytes, byteFields}
 use Rattle.drawing.specs.Fields.{memberCount}
 use Rattle.drawing.specs.String.{String}
 use Rattle.drawing.specs.Object.{Object, group, Objects, ofList, listOf}
-use Rattle.drawing.specs.ObjectLaws.{list-of-list}
 use Rattle.drawing.specs.LeafLayout.{objectEnd}
 use Rattle.drawing.specs.ObjectLayout.{object, groupBody}
 use Rattle.drawing.specs.Table.{wordsOf, groupWords, rows, rowsAll, bodies, bodiesAll}
@@ -25,16 +22,13 @@ use Rattle.fields.specs.declared.turn.Turn.{Turn}
 use Rattle.fields.specs.declared.turn.Turn.the-variants as Turn
 use Rattle.fields.specs.Kinds.{kindOf}
 use Rattle.fields.specs.Turn.{Turned}
-use Rattle.automaton.specs.declared.Expect.the-variants as Expect
-use Rattle.automaton.specs.Unfolds.{end-state}
 use Rattle.scanner.specs.declared.Scan.{Scan}
 use Rattle.scanner.specs.declared.Scan.the-variants as Scan
-use Rattle.scanner.specs.Runs.{inWords}
-use Rattle.scanner.specs.Scans.{Within, scanOf, ScannedBody}
+use Rattle.scanner.specs.Scans.{scanOf, ScannedBody}
 use Rattle.scanner.specs.ScanLaws.{place-of}
-use Rattle.scanner.specs.ObjectScans.{Placed, counted, Ended, Scanned, ScannedObject, ScannedMembers, ScannedGroup}
+use Rattle.scanner.specs.ObjectScans.{Placed, counted, ScannedObject, ScannedMembers, ScannedGroup}
 use Rattle.laws.specs.ParseLaws.{group-parse}
-use Rattle.scanner.specs.ObjectScanLaws.{Passed, passed, Stopped, stopped, scan-layout, ended-body, ended-later}
+use Rattle.scanner.specs.ObjectScanLaws.{Passed, passed, Stopped, stopped, ended-body}
 
 -- ---- members
 
@@ -134,7 +128,7 @@ same-group-end v total rs ws more kept os (found d rest) rows-are words-are =
     ∙ ap (λ n. Scan.Done (total - length rest) (rs + rowsAll (ofList os)) n) sum
 same-group-end v total rs ws more kept os (refused n place) rows-are words-are = refl
 
-module _ (file : List ℕ) (known : (i : ℕ) → Fits w8 (getD file i 0)) (v deep at rs ws : ℕ) (placed : Placed (length file) at rs ws) (t : Turn) (turned : Turned byteFields file at (kindOf (Kind.Count 1)) t) where
+module _ (file : List ℕ) (known : (i : ℕ) → Fits w8 (getD file i 0)) (v deep at rs ws : ℕ) (placed : Placed (length file) at rs ws) (t : Turn) (turned : Turned byteFields file at (kindOf Kind.MemberCount) t) where
   -- A group's body, as its parts parse.
   parts : parse bytes (groupBody v (object v deep)) (drop at file)
       ≡ andThen (bytes .read memberCount (drop at file)) (λ n rest.
@@ -143,7 +137,7 @@ module _ (file : List ℕ) (known : (i : ℕ) → Fits w8 (getD file i 0)) (v de
 
   pub group-fault : (n : ℕ) → t ≡ Turn.Fault n → ScannedGroup file v deep at rs ws (Scan.Refused n at)
   group-fault n is =
-      let r : Turned byteFields file at (kindOf (Kind.Count 1)) (Turn.Fault n) = rw is at turned in
+      let r : Turned byteFields file at (kindOf Kind.MemberCount) (Turn.Fault n) = rw is at turned in
       record {
         says =
             ap (λ m. Scan.Refused n m) (sym (place-of file at (placed .inside)))
@@ -156,14 +150,14 @@ module _ (file : List ℕ) (known : (i : ℕ) → Fits w8 (getD file i 0)) (v de
     -- The members begin behind the count.
     pub group-members : Placed (length file) (at + 4) rs (ws + 1)
     group-members =
-        let r : Turned byteFields file at (kindOf (Kind.Count 1)) (Turn.Value members) = rw is at turned in
+        let r : Turned byteFields file at (kindOf Kind.MemberCount) (Turn.Value members) = rw is at turned in
         let inside : at + 4 ≤ length file = r .beside .inside in
         record { short = placed .short; inside = inside; few-rows = omega (arith, placed .few-rows); few-words = omega (arith, placed .few-words) }
 
     from-members : parse bytes (groupBody v (object v deep)) (drop at file)
         ≡ andThen (parse bytes (repeat members (object v deep)) (drop (at + 4) file)) (λ os rest₂. andThen (parse bytes (objectEnd v) rest₂) (λ d rest₃. found (ofList os, d) rest₃))
     from-members =
-        let r : Turned byteFields file at (kindOf (Kind.Count 1)) (Turn.Value members) = rw is at turned in
+        let r : Turned byteFields file at (kindOf Kind.MemberCount) (Turn.Value members) = rw is at turned in
         parts ∙ ap (λ o. andThen o (λ n rest.
         andThen (parse bytes (repeat n (object v deep)) rest) (λ os rest₂. andThen (parse bytes (objectEnd v) rest₂) (λ d rest₃. found (ofList os, d) rest₃)))) (r .reads)
 
@@ -183,7 +177,7 @@ module _ (file : List ℕ) (known : (i : ℕ) → Fits w8 (getD file i 0)) (v de
         pub group-tail : Placed (length file) next more kept
         group-tail = let done : ScannedMembers file v deep members (at + 4) rs (ws + 1) (Scan.Done next more kept) = rw gone at scanned in done .ended .1
 
-        pub group-end : (r : Scan) → ScannedBody file v Expect.FlowFlag next more kept r → ScannedGroup file v deep at rs ws r
+        pub group-end : (r : Scan) → ScannedBody (objectEnd v) file next more kept r → ScannedGroup file v deep at rs ws r
         group-end r s =
             let done : ScannedMembers file v deep members (at + 4) rs (ws + 1) (Scan.Done next more kept) = rw gone at scanned in
             let p : Passed (repeat members (object v deep)) (λ os. rowsAll (ofList os)) (λ os. length (bodiesAll (ofList os) v)) file (at + 4) rs (ws + 1) next more kept =
@@ -191,8 +185,6 @@ module _ (file : List ℕ) (known : (i : ℕ) → Fits w8 (getD file i 0)) (v de
             record {
               says =
                   s .says
-                  ∙ ap (λ script. scanOf (length file) more kept (inWords script (drop next file))) (end-state v)
-                  ∙ scan-layout (objectEnd v) (length file) more kept (drop next file) (below-drop 256 next file (known-below w8 file known))
                   ∙ same-group-end v (length file) rs ws more kept (p .value) (parse bytes (objectEnd v) (drop next file)) (p .rows-are) (p .words-are)
                   ∙ sym (ap (groupCounted v (length file) rs ws) (from-members ∙ ap (λ o. andThen o (λ os rest₂. andThen (parse bytes (objectEnd v) rest₂) (λ d rest₃. found (ofList os, d) rest₃))) (p .parsed)));
               ended = ended-body (length file) at next more r (s .within) (omega (arith, done .ended .0)) (done .ended .1 .few-rows);

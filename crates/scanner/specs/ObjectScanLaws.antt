@@ -1,52 +1,41 @@
--- The laws of scanning objects: by its id an object is a leaf or a group; members are scanned one after another; a group ends behind its members.
+-- The laws of scanning an object: what a scan says of parsing, and by its id an object is a leaf or a group.
 use mathlib.Core.Path.{_≡_, refl, sym, ap, subst, _∙_}
-use mathlib.Core.Bool.{true, false}
+use mathlib.Core.Bool.{true}
 use Prim.Native.Nat.{ℕ, zero, suc, _+_, _-_, _<_, _≤_}
 use Prim.Native.Char.{code}
-use native.Mathlib.Nat as Nat
 use native.Mathlib.Omega.{arith}
-use mathlib.Core.List.{List, [], _∷_, _++_}
+use mathlib.Core.List.{List}
 use lib.Dec.{ltb}
-use lib.ListN.{length, drop, getD, length-append}
+use lib.ListN.{length, drop, getD}
 use mir.Syntax.{w8}
 use mir.Val.{Fits}
 use borrow.Author.Tests.{ltb-true, lt-ltb}
 use Rattle.format.specs.Digits.{Below}
 use Rattle.format.specs.LeafLaws.{below-drop, known-below}
 use Rattle.format.specs.Codec.{Outcome, found, refused, andThen}
-use Rattle.format.specs.FixedCodec.{spellFixed}
-use Rattle.format.specs.FixedCodecLaws.{fixed-lawful}
 use Rattle.format.specs.FixedLayoutLaws.{parsed-good}
 use Rattle.format.specs.AlternativeLaws.{told-tells}
-use Rattle.format.specs.Layout.{Layout, repeat, parse}
-use Rattle.format.specs.TranslateLaws.{parse-threaded, translate-alone}
-use Rattle.drawing.specs.Codecs.{bytes, byteFields, wordFields}
-use Rattle.drawing.specs.Fields.{memberCount, objectId}
+use Rattle.format.specs.Layout.{Layout, parse}
+use Rattle.drawing.specs.Codecs.{bytes, byteFields}
+use Rattle.drawing.specs.Fields.{objectId}
 use Rattle.drawing.specs.String.{String}
-use Rattle.drawing.specs.Object.{Leaf, Object, leaf, group, Objects, ofList, listOf}
+use Rattle.drawing.specs.Object.{Leaf, leaf, group, Objects}
 use Rattle.drawing.specs.ObjectId.{leafLetter}
-use Rattle.drawing.specs.ObjectLaws.{list-of-list}
-use Rattle.drawing.specs.LeafLayout.{pathCase, otherCases, isLeaf, leafBody, objectEnd}
+use Rattle.drawing.specs.LeafLayout.{pathCase, otherCases, isLeaf, leafBody}
 use Rattle.drawing.specs.ObjectLayout.{object, groupBody}
-use Rattle.drawing.specs.Table.{wordsOf, leafWords, groupWords, rows, rowsAll, bodies, bodiesAll}
+use Rattle.drawing.specs.Table.{wordsOf, rows, rowsAll, bodies}
 use Rattle.laws.specs.CodecLaws.{bytes-sensible, bytes-literal}
 use Rattle.fields.specs.declared.Kind.the-variants as Kind
 use Rattle.fields.specs.declared.turn.Turn.{Turn}
 use Rattle.fields.specs.declared.turn.Turn.the-variants as Turn
 use Rattle.fields.specs.Kinds.{kindOf}
 use Rattle.fields.specs.Turn.{Turned}
-use Rattle.automaton.specs.declared.Expect.{Expect}
-use Rattle.automaton.specs.declared.Expect.the-variants as Expect
-use Rattle.automaton.specs.Afters.{leafStart}
-use Rattle.automaton.specs.Denote.{_⟫_, done, den}
-use Rattle.automaton.specs.Unfolds.{leaf-state, end-state}
 use Rattle.scanner.specs.declared.Scan.{Scan}
 use Rattle.scanner.specs.declared.Scan.the-variants as Scan
-use Rattle.scanner.specs.Runs.{inWords}
-use Rattle.scanner.specs.Scans.{Within, scanOf, scanFrom, EndsWithin, ScannedBody}
+use Rattle.scanner.specs.Scans.{Within, scanOf, EndsWithin, ScannedBody}
 use Rattle.scanner.specs.ScanLaws.{place-of}
-use Rattle.scanner.specs.ObjectScans.{Placed, counted, Ended, Scanned, ScannedObject, ScannedMembers, ScannedGroup}
-use Rattle.laws.specs.ParseLaws.{Behind, behind, leaf-id, group-id, idKind, object-refused, object-leaf, object-group, group-parse}
+use Rattle.scanner.specs.ObjectScans.{Placed, counted, Ended, ScannedObject, ScannedGroup}
+use Rattle.laws.specs.ParseLaws.{Behind, behind, leaf-id, group-id, idKind, object-refused, object-leaf, object-group}
 
 sub-one : (n : ℕ) → suc n - 1 ≡ n
 sub-one n = omega arith
@@ -87,11 +76,6 @@ module _ {A : Type 0} (L : Layout A) (rowsIn wordsIn : A → ℕ) (file : List �
           let same : m ≡ n = cc in
           record { place = place; parsed = e ∙ ap (λ k. refused k place) same; offset-is = cc }
 
--- What a state stands for is scanned as the layout parses.
-pub scan-layout : {A : Type 0} (L : Layout A) (total rs ws : ℕ) (us : List ℕ) → Below 256 us
-    → scanOf total rs ws (inWords (L ⟫ done) us) ≡ scanOf total rs ws (andThen (parse bytes L us) (λ a rest. found (wordsOf L a) rest))
-scan-layout L total rs ws us below = ap (scanOf total rs ws) (translate-alone bytes (fixed-lawful byteFields bytes-sensible) (spellFixed wordFields) L tt us below)
-
 pub ended-body : (total at from above : ℕ) (r : Scan) → EndsWithin total from above r → at ≤ from → above ≤ from → Ended total at r
 ended-body total at from above (Scan.Done next more kept) w forward few =
     (omega (arith, w .0), record { short = w .2 .short; inside = w .2 .inside; few-rows = omega (arith, w .0, w .1); few-words = w .2 .few })
@@ -129,11 +113,10 @@ module _ (file : List ℕ) (known : (i : ℕ) → Fits w8 (getD file i 0)) (v de
       }
 
   -- The next place is in the file.
-  pub scan-object-id : (c : ℕ) → t ≡ Turn.Value c → (c < 65536) × Placed (length file) (at + 2) (rs + 1) ws × Within (length file) (at + 2) ws
+  pub scan-object-id : (c : ℕ) → t ≡ Turn.Value c → Placed (length file) (at + 2) (rs + 1) ws × Within (length file) (at + 2) ws
   scan-object-id c is =
       let r : Turned byteFields file at (kindOf (Kind.ObjectId (ltb 0 deep))) (Turn.Value c) = rw is at turned in
       let inside : at + 2 ≤ length file = r .beside .inside in (
-        r .beside .allowed .fits,
         record { short = placed .short; inside = inside; few-rows = omega (arith, placed .few-rows); few-words = omega (arith, placed .few-words) },
         record { short = placed .short; inside = inside; few = omega (arith, placed .few-words) },
       )
@@ -143,7 +126,7 @@ module _ (file : List ℕ) (known : (i : ℕ) → Fits w8 (getD file i 0)) (v de
       let r : Turned byteFields file at (kindOf (Kind.ObjectId (ltb 0 deep))) (Turn.Value (code "G")) = rw is at turned in
       ltb-true 0 deep (group-id v (ltb 0 deep) (r .beside .allowed))
 
-  pub scan-object-leaf : (c : ℕ) → t ≡ Turn.Value c → (c ≡ code "G" → ⊥) → (r : Scan) → ScannedBody file v (leafStart c) (at + 2) (rs + 1) ws r → ScannedObject file v deep at rs ws r
+  pub scan-object-leaf : (c : ℕ) → t ≡ Turn.Value c → (c ≡ code "G" → ⊥) → (r : Scan) → ScannedBody (leafBody v c) file (at + 2) (rs + 1) ws r → ScannedObject file v deep at rs ws r
   scan-object-leaf c is other r s =
       let id : Turned byteFields file at (kindOf (Kind.ObjectId (ltb 0 deep))) (Turn.Value c) = rw is at turned in
       let leafy : isLeaf v c ≡ true = leaf-id v c (ltb 0 deep) (id .beside .allowed) other in
@@ -151,8 +134,6 @@ module _ (file : List ℕ) (known : (i : ℕ) → Fits w8 (getD file i 0)) (v de
       record {
         says =
             s .says
-            ∙ ap (λ script. scanOf (length file) (rs + 1) ws (inWords script (drop (at + 2) file))) (sym (leaf-state v c))
-            ∙ scan-layout (leafBody v c) (length file) (rs + 1) ws (drop (at + 2) file) below
             ∙ same-leaf v c (length file) rs ws (parse bytes (leafBody v c) (drop (at + 2) file)) (λ l d rest e. told-tells (pathCase v) (otherCases v) c l leafy (parsed-good byteFields bytes-sensible bytes-literal (leafBody v c) (drop (at + 2) file) below (l, d) rest e .0 .0))
             ∙ ap (counted rows (λ o. length (bodies o v)) (length file) rs ws) (sym (object-leaf v deep (drop at file) c (drop (at + 2) file) (id .reads) leafy));
         ended = ended-body (length file) at (at + 2) (rs + 1) r (s .within) (omega arith) (omega (arith, placed .few-rows));
@@ -176,5 +157,3 @@ module _ (file : List ℕ) (known : (i : ℕ) → Fits w8 (getD file i 0)) (v de
                 ∙ ap (counted rows (λ o. length (bodies o v)) (length file) rs ws) (sym (object-group v n (drop at file) (drop (at + 2) file) may));
             ended = ended-later (length file) at (at + 2) r (s′ .ended) (omega arith);
           }
-
--- ---- members

@@ -7,8 +7,7 @@ use Rattle.format.specs.Codec.{Outcome, found, refused}
 use Rattle.format.specs.Layout.{Layout, parse, repeat}
 use Rattle.drawing.specs.Codecs.{bytes}
 use Rattle.drawing.specs.Limits.{lengthLimit}
-use Rattle.drawing.specs.String.{String}
-use Rattle.drawing.specs.Object.{Object, group, Objects, ofList}
+use Rattle.drawing.specs.Object.{group, ofList}
 use Rattle.drawing.specs.ObjectLayout.{object, groupBody}
 use Rattle.drawing.specs.Table.{rows, rowsAll, bodies, bodiesAll}
 use Rattle.scanner.specs.declared.Scan.{Scan}

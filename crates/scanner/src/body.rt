@@ -1,50 +1,107 @@
-// The scan of what a state of the automaton asks for, to its end: the settings, a leaf's body, or the end of a group.
+// What stands behind a leaf's id, what ends a group, and the settings: passes into no memory, which judge and count.
 use crate::Scan;
-use crate::Step;
-use crate::steps::step;
-use automaton::Expect;
+use parts::object::leaf_body;
+use parts::object::object_end;
+use parts::settings::settings;
+use passes::Pass;
+ghost use mathlib.Core.Path.{_≡_};
 ghost use lib.ListN.{length};
-ghost use Rattle.scanner.specs.Scans.{Within, ScannedBody};
+ghost use Rattle.drawing.specs.LeafLayout.{leafBody, objectEnd};
+ghost use Rattle.drawing.specs.Settings as S;
+ghost use Rattle.scanner.specs.Scans.{Within, scanBy, ScannedBody};
 
-pub fn scan_body(
+fn scan_behind(pass: Pass, rows: usize) -> Scan
+    ensures { λ r. ⌜ r ≡ scanBy (pass .number) (pass .at) (pass .to) rows ⌝ }
+{
+    if pass.number == 0 {
+        return Scan::Done {
+            at: pass.at,
+            rows: rows,
+            words: pass.to,
+        };
+    }
+    Scan::Refused {
+        number: pass.number,
+        at: pass.at,
+    }
+}
+
+pub fn scan_leaf(
     file: &[u8],
     version: u32,
-    start: Expect,
-    from: usize,
+    letter: u64,
+    at: usize,
     rows: usize,
-    before: usize,
+    words: usize,
 ) -> Scan
-    requires { ⌜ Within (length (now file)) from before ⌝ }
-    ensures { λ r. ⌜ ScannedBody (now (file .entry)) version start from rows before r ⌝ }
+    requires { ⌜ Within (length (now file)) at words ⌝ }
+    ensures { λ r. ⌜ ScannedBody (leafBody version letter) (now (file .entry)) at rows words r ⌝ }
 {
-    let mut state = start;
-    let mut at = from;
-    let mut words = before;
-    loop {
-        let next = step(file, version, state, at, words);
-        match next {
-            Step::More {
-                state: behind,
-                at: place,
-                words: counted,
-            } => {
-                state = behind;
-                at = place;
-                words = counted;
-            }
-            Step::End => {
-                return Scan::Done {
-                    at: at,
-                    rows: rows,
-                    words: words,
-                };
-            }
-            Step::Refused { number, at: place } => {
-                return Scan::Refused {
-                    number: number,
-                    at: place,
-                };
-            }
-        }
-    }
+    let no_table = [0u32; 0];
+    let mut no_words = [0u32; 0];
+    let mut no_bytes = [0u8; 0];
+    let start = Pass {
+        number: 0,
+        at: at,
+        to: words,
+    };
+    let behind = leaf_body(
+        file,
+        &no_table,
+        &mut no_words,
+        &mut no_bytes,
+        false,
+        start,
+        version,
+        letter,
+    );
+    scan_behind(behind, rows)
+}
+
+pub fn scan_end(file: &[u8], version: u32, at: usize, rows: usize, words: usize) -> Scan
+    requires { ⌜ Within (length (now file)) at words ⌝ }
+    ensures { λ r. ⌜ ScannedBody (objectEnd version) (now (file .entry)) at rows words r ⌝ }
+{
+    let no_table = [0u32; 0];
+    let mut no_words = [0u32; 0];
+    let mut no_bytes = [0u8; 0];
+    let start = Pass {
+        number: 0,
+        at: at,
+        to: words,
+    };
+    let behind = object_end(
+        file,
+        &no_table,
+        &mut no_words,
+        &mut no_bytes,
+        false,
+        start,
+        version,
+    );
+    scan_behind(behind, rows)
+}
+
+pub fn scan_settings_body(file: &[u8], version: u32, at: usize, rows: usize, words: usize) -> Scan
+    requires { ⌜ Within (length (now file)) at words ⌝ }
+    ensures { λ r. ⌜ ScannedBody (S.settings version) (now (file .entry)) at rows words r ⌝ }
+{
+    let no_table = [0u32; 0];
+    let mut no_words = [0u32; 0];
+    let mut no_bytes = [0u8; 0];
+    let start = Pass {
+        number: 0,
+        at: at,
+        to: words,
+    };
+    let behind = settings(
+        file,
+        &no_table,
+        &mut no_words,
+        &mut no_bytes,
+        false,
+        start,
+        version,
+    );
+    scan_behind(behind, rows)
 }

@@ -1,9 +1,7 @@
 // The scan of a whole file: its head, its settings and the outer group, with which it has to end.
 use crate::Scan;
-use crate::body::scan_body;
+use crate::body::scan_settings_body;
 use crate::objects::scan_group;
-use automaton::Expect;
-use automaton::Settings;
 use fields::Kind;
 use fields::turn::Turn;
 use fields::turn::turn_at;
@@ -55,7 +53,7 @@ fn scan_settings(file: &[u8], version: u32, at: usize) -> Scan
     requires { ⌜ Within (length (now file)) at 1 ⌝ }
     ensures { λ r. ⌜ ScannedSettings (now (file .entry)) version at r ⌝ }
 {
-    let passed = scan_body(file, version, Expect::Settings(Settings::Which), at, 0, 1);
+    let passed = scan_settings_body(file, version, at, 0, 1);
     match passed {
         Scan::Refused { number, at: place } => Scan::Refused {
             number: number,

@@ -1,10 +1,7 @@
 // The first pass of the reader: judges the fields of a file and counts rows and words, and stores nothing.
-use automaton::Expect;
-
 pub mod body;
 pub mod file;
 pub mod objects;
-pub mod steps;
 
 // Where a scan ended, with the rows and words counted; or the number of the refusal, and the place of the field at fault.
 pub enum Scan {
@@ -13,20 +10,6 @@ pub enum Scan {
         rows: usize,
         words: usize,
     },
-    Refused {
-        number: u32,
-        at: usize,
-    },
-}
-
-// Where one step leads: to another state; to the end, since nothing more is asked for; or to a refusal.
-pub enum Step {
-    More {
-        state: Expect,
-        at: usize,
-        words: usize,
-    },
-    End,
     Refused {
         number: u32,
         at: usize,

@@ -1,12 +1,11 @@
 // The scan of objects: an object that is a group calls the group's scan, which calls the object's back, and the depth left falls at each group.
 use crate::Scan;
-use crate::body::scan_body;
-use automaton::Expect;
-use automaton::after::leaf_start;
+use crate::body::scan_end;
+use crate::body::scan_leaf;
 use fields::Kind;
 use fields::turn::Turn;
 use fields::turn::turn_at;
-ghost use Prim.Native.Nat.{_+_, _*_};
+ghost use Prim.Native.Nat.{_+_};
 ghost use lib.ListN.{length};
 ghost use Rattle.scanner.specs.ObjectScans.{Placed, ScannedObject, ScannedMembers, ScannedGroup};
 
@@ -32,14 +31,7 @@ pub fn scan_object(
             if letter == 71 {
                 return scan_group(file, version, deep - 1, at + 2, rows + 1, words);
             }
-            scan_body(
-                file,
-                version,
-                leaf_start(letter as u16),
-                at + 2,
-                rows + 1,
-                words,
-            )
+            scan_leaf(file, version, letter, at + 2, rows + 1, words)
         }
     }
 }
@@ -56,7 +48,7 @@ pub fn scan_group(
     requires { ⌜ Placed (length (now file)) at rows words ⌝ }
     ensures { λ r. ⌜ ScannedGroup (now (file .entry)) version deep at rows words r ⌝ }
 {
-    let count = turn_at(file, at, Kind::Count(1));
+    let count = turn_at(file, at, Kind::MemberCount);
     match count {
         Turn::Fault(number) => Scan::Refused {
             number: number,
@@ -73,7 +65,7 @@ pub fn scan_group(
                     at: behind,
                     rows: counted,
                     words: kept,
-                } => { scan_body(file, version, Expect::FlowFlag, behind, counted, kept) }
+                } => { scan_end(file, version, behind, counted, kept) }
             }
         }
     }

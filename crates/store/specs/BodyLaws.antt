@@ -1,37 +1,35 @@
--- A body stored step by step: what is left always comes to the same.
-use mathlib.Core.Path.{_≡_, refl, sym, subst, _∙_}
-use Prim.Native.Nat.{ℕ, _-_, _<_, _≤_}
-use native.Mathlib.Omega.{arith}
+-- The law of storing a body: a pass over a layout that is there and fits stores the words of what it lays out.
+use mathlib.Core.Path.{_≡_, refl, sym, ap, subst, _∙_}
+use mathlib.Core.Bool.{false}
+use Prim.Native.Nat.{ℕ, _+_, _-_, _≤_}
 use mathlib.Core.List.{List}
-use lib.ListN.{length, drop}
-use Rattle.automaton.specs.declared.Expect.{Expect}
-use Rattle.automaton.specs.Denote.{den}
-use Rattle.scanner.specs.Runs.{inWords}
-use Rattle.store.specs.declared.Move.{Move}
-use Rattle.store.specs.declared.Move.the-variants as Move
-use Rattle.store.specs.Splice.{finish, Storable, StorableBehind, Moved, StoredBody}
+use lib.ListN.{length, drop, getD}
+use mir.Syntax.{w8}
+use mir.Val as Val
+use Rattle.format.specs.LeafLaws.{known-below}
+use Rattle.format.specs.Codec.{Outcome, found, refused, andThen}
+use Rattle.format.specs.Layout.{Layout, parse}
+use Rattle.format.specs.Pass.{splice}
+use Rattle.drawing.specs.Codecs.{bytes}
+use Rattle.drawing.specs.Table.{wordsOf}
+use Rattle.passes.specs.declared.Pass.{Pass}
+use Rattle.passes.specs.Carries.{Laid}
+use Rattle.passes.specs.Landings.{Lands, lands}
+use Rattle.store.specs.Bodies.{finish, Fits, Storable, StoredBody}
 
-pub record Onward (file : List ℕ) (v : ℕ) (start : Expect) (from place : ℕ) (before : List ℕ) (state : Expect) (at to : ℕ) (s : List ℕ) : Type 0 where
-  pub same : finish (length file) place before (inWords (den v start) (drop from file)) ≡ finish (length file) to s (inWords (den v state) (drop at file))
-  pub storable : Storable file v state at (length s) to
-  pub same-length : length s ≡ length before
-
-module _ {file : List ℕ} {v : ℕ} {start : Expect} {from place : ℕ} {before : List ℕ} where
-  pub onward-begins : Storable file v start from (length before) place → Onward file v start from place before start from place before
-  onward-begins storable = record { same = refl; storable = storable; same-length = refl }
-
-  module _ {state : Expect} {at to : ℕ} {s : List ℕ} (on : Onward file v start from place before state at to s) {t : List ℕ} {r : Move} (moved : Moved file v state at to s t r) where
-    pub onward-less : {next : Expect} {reached filled : ℕ} → r ≡ Move.More next reached filled → length file - reached < length file - at
-    onward-less {next} {reached} {filled} is =
-        let b : StorableBehind file v at (length t) (Move.More next reached filled) = subst (StorableBehind file v at (length t)) is (moved .behind) in
-        omega (arith, b .0, b .1 .inside)
-
-    pub onward-again : {next : Expect} {reached filled : ℕ} → r ≡ Move.More next reached filled → Onward file v start from place before next reached filled t
-    onward-again {next} {reached} {filled} is =
-        let m : Moved file v state at to s t (Move.More next reached filled) = subst (Moved file v state at to s t) is moved in
-        record { same = on .same ∙ m .says; storable = m .behind .1; same-length = m .same-length ∙ on .same-length }
-
-    pub onward-ends : r ≡ Move.End → StoredBody file v start from place before t (record { at = at; to = to })
-    onward-ends is =
-        let m : Moved file v state at to s t Move.End = subst (Moved file v state at to s t) is moved in
-        record { says = sym (on .same ∙ m .says); same-length = m .same-length ∙ on .same-length }
+module _ {A : Type 0} {L : Layout A} {file m m′ : List ℕ} (known : (i : ℕ) → Val.Fits w8 (getD file i 0)) {at to : ℕ} (storable : Storable L file at (length m) to) {p : Pass} where
+  pub body-stored : Laid (L .format) false file m m′ (record { number = 0; at = at; to = to }) p → StoredBody L file at to m m′ (record { at = p .at; to = p .to })
+  body-stored laid = by (parse bytes L (drop at file)) refl (lands L false (known-below w8 file known) refl (storable .inside) laid)
+    where
+      by : (o : Outcome A) → parse bytes L (drop at file) ≡ o → Lands L false file m m′ (record { number = 0; at = at; to = to }) p o → StoredBody L file at to m m′ (record { at = p .at; to = p .to })
+      by (found a rest) e landed =
+          let fits : to + length (wordsOf L a) ≤ length m = subst (λ o. Fits (length m) to (andThen o (λ a rest. found (wordsOf L a) rest))) e (storable .fits) in
+          record {
+            says =
+                ap (λ s. record { memory = s; at = p .at; to = p .to }) (landed .stands fits)
+                ∙ ap (λ n. record { memory = splice to (wordsOf L a) m; at = n; to = p .to }) (landed .at-is)
+                ∙ ap (λ n. record { memory = splice to (wordsOf L a) m; at = length file - length rest; to = n }) (landed .to-is)
+                ∙ sym (ap (λ o. finish (length file) to m (andThen o (λ a rest. found (wordsOf L a) rest))) e);
+            same-length = laid .carried .same-length;
+          }
+      by (refused n place) e failed = absurd (subst (λ o. Fits (length m) to (andThen o (λ a rest. found (wordsOf L a) rest))) e (storable .fits))

@@ -1,10 +1,10 @@
 -- The laws of storing a group: its members, behind them its count and its end, and last its row.
 use mathlib.Core.Path.{_≡_, refl, sym, ap, ap₂, subst, _∙_}
-use Prim.Native.Nat.{ℕ, zero, suc, _+_, _-_, _*_, _^_, _<_, _≤_}
+use Prim.Native.Nat.{ℕ, suc, _+_, _-_, _*_, _^_, _≤_}
 use native.Mathlib.Nat as Nat
 use native.Mathlib.Numerals.{add-one}
 use native.Mathlib.Omega.{arith}
-use mathlib.Core.List.{List, [], _∷_, _++_, append-assoc}
+use mathlib.Core.List.{List, _++_, append-assoc}
 use lib.ListN.{length, take, drop, getD, length-append, length-drop}
 use lib.Seq.{drop-drop}
 use mir.Syntax.{w8}
@@ -12,35 +12,30 @@ use mir.Val as Val
 use Rattle.format.specs.Digits.{Below, number, digits}
 use Rattle.format.specs.LeafLaws.{below-drop, known-below}
 use Rattle.format.specs.Codec.{Outcome, found, refused, andThen}
-use Rattle.format.specs.FixedCodec.{spellFixed}
-use Rattle.format.specs.FixedCodecLaws.{fixed-lawful}
 use Rattle.format.specs.FormatLaws.{each-length}
 use Rattle.format.specs.FixedLayoutLaws.{parsed-good}
-use Rattle.format.specs.Layout.{Layout, parse, repeat}
-use Rattle.format.specs.TranslateLaws.{translate-alone}
-use Rattle.drawing.specs.Codecs.{bytes, byteFields, wordFields}
+use Rattle.format.specs.Layout.{parse, repeat}
+use Rattle.drawing.specs.Codecs.{bytes, byteFields}
 use Rattle.drawing.specs.Limits.{lengthLimit}
 use Rattle.drawing.specs.Fields.{memberCount}
 use Rattle.drawing.specs.String.{String}
-use Rattle.drawing.specs.Object.{Object, group, Objects, ofList, listOf}
+use Rattle.drawing.specs.Object.{Object, group, ofList, listOf}
 use Rattle.drawing.specs.ObjectLaws.{list-of-list}
 use Rattle.drawing.specs.LeafLayout.{objectEnd}
-use Rattle.drawing.specs.ObjectLayout.{object, groupBody}
+use Rattle.drawing.specs.ObjectLayout.{object}
 use Rattle.drawing.specs.Table.{wordsOf, groupKind, groupWords, rowWidth, row as rowWords, rows, rowsAll, bodies, bodiesAll, contents, contentsAll}
 use Rattle.laws.specs.CodecLaws.{bytes-sensible, bytes-literal}
 use Rattle.laws.specs.OrderLaws.{contents-length-all}
-use Rattle.automaton.specs.declared.Expect.the-variants as Expect
-use Rattle.automaton.specs.Denote.{den}
-use Rattle.automaton.specs.Unfolds.{end-state}
-use Rattle.scanner.specs.Runs.{inWords}
+use Rattle.scanner.specs.Scans.{wordsAt}
 use Rattle.laws.specs.ParseLaws.{Behind, behind, group-parse}
 use Rattle.store.specs.declared.Cursor.{Cursor}
 use Rattle.store.specs.declared.Reach.{Reach}
-use Rattle.store.specs.Splice as Body
-use Rattle.store.specs.Splice.{splice, Finish, finish, Fits, StoredBody}
-use Rattle.store.specs.SpliceLaws.{splice-behind, splice-before, length-splice}
+use Rattle.store.specs.Bodies as Body
+use Rattle.store.specs.Bodies.{finish, Fits, StoredBody}
+use Rattle.format.specs.Pass.{splice}
+use Rattle.format.specs.SpliceLaws.{splice-behind, splice-before, length-splice}
 use Rattle.laws.specs.ReadingLaws.{Read, read-found}
-use Rattle.store.specs.ObjectStores.{Table, tabled, RoomFor, Storable, Stored, groupAt, membersAt, objectRows, memberRows, StorableObject, StorableMembers, StoredObject, StoredMembers}
+use Rattle.store.specs.ObjectStores.{tabled, RoomFor, Storable, groupAt, membersAt, objectRows, memberRows, StorableObject, StorableMembers, StoredObject, StoredMembers}
 use Rattle.store.specs.MemberStoreLaws.{same-table}
 
 module _ (file : List ℕ) (known : (i : ℕ) → Val.Fits w8 (getD file i 0)) (v deep at row to : ℕ) (cs bs : List ℕ)
@@ -204,23 +199,22 @@ module _ (file : List ℕ) (known : (i : ℕ) → Val.Fits w8 (getD file i 0)) (
         same-two : length bs₂ ≡ length bs
         same-two = ap length word ∙ length-splice (inner .to) (digits (2 ^ 32) 1 m) bs₁ (group-start .0) ∙ stored .same-words
 
-        end-words : inWords (den v Expect.FlowFlag) (drop (inner .at) file) ≡ found (wordsOf (objectEnd v) (here .d)) (here .rest)
+        end-words : wordsAt (objectEnd v) file (inner .at) ≡ found (wordsOf (objectEnd v) (here .d)) (here .rest)
         end-words =
-            ap (λ n. inWords (den v Expect.FlowFlag) (drop n file)) at-is
-            ∙ ap (λ script. inWords script (drop (here .next) file)) (end-state v)
-            ∙ translate-alone bytes (fixed-lawful byteFields bytes-sensible) (spellFixed wordFields) (objectEnd v) tt (drop (here .next) file) (below (here .next))
+            ap (wordsAt (objectEnd v) file) at-is
             ∙ ap (λ o. andThen o (λ a rest. found (wordsOf (objectEnd v) a) rest)) (here .end-is)
 
-        pub group-end : Body.Storable file v Expect.FlowFlag (inner .at) (length bs₂) (inner .to + 1)
+        pub group-end : Body.Storable (objectEnd v) file (inner .at) (length bs₂) (inner .to + 1)
         group-end =
             let fits : inner .to + 1 + length (wordsOf (objectEnd v) (here .d)) ≤ length bs₂ = omega (arith, to-is, room .1, storable .words-hold, same-two) in
             record {
               short = storable .short;
               inside = subst (λ n. n ≤ length file) (sym at-is) (here .next-inside);
+              few = group-start .1;
               fits = subst (Fits (length bs₂) (inner .to + 1)) (sym end-words) fits;
             }
 
-        module _ (bs₃ : List ℕ) (cursor : Cursor) (body : StoredBody file v Expect.FlowFlag (inner .at) (inner .to + 1) bs₂ bs₃ cursor) where
+        module _ (bs₃ : List ℕ) (cursor : Cursor) (body : StoredBody (objectEnd v) file (inner .at) (inner .to + 1) bs₂ bs₃ cursor) where
           finished : record { memory = bs₃; at = cursor .at; to = cursor .to } ≡ finish (length file) (inner .to + 1) bs₂ (found (wordsOf (objectEnd v) (here .d)) (here .rest))
           finished = body .says ∙ ap (finish (length file) (inner .to + 1) bs₂) end-words
 

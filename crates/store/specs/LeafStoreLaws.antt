@@ -1,52 +1,45 @@
 -- The laws of storing an object: by its letter it is a leaf, whose body is stored and then its row, or a group.
 use mathlib.Core.Path.{_≡_, refl, sym, ap, ap₂, subst, _∙_}
-use mathlib.Core.Bool.{Bool, true, false, cond}
+use mathlib.Core.Bool.{true}
 use Prim.Native.Nat.{ℕ, zero, suc, _+_, _-_, _*_, _<_, _≤_}
 use Prim.Native.Char.{code}
 use native.Mathlib.Nat as Nat
-use native.Mathlib.Numerals.{add-one}
 use native.Mathlib.Omega.{arith}
-use mathlib.Core.List.{List, [], _∷_, _++_}
-use lib.Dec.{eqb, ltb}
-use lib.ListN.{length, take, drop, getD, length-append, length-drop}
+use mathlib.Core.List.{List}
+use lib.Dec.{ltb}
+use lib.ListN.{length, take, drop, getD, length-drop}
 use lib.Seq.{drop-drop}
 use mir.Syntax.{w8}
 use mir.Val as Val
 use borrow.Author.Tests.{ltb-true, lt-ltb}
 use Rattle.format.specs.Digits.{Below, number}
-use Rattle.format.specs.Kind.{Allowed, size}
+use Rattle.format.specs.Kind.{Allowed}
 use Rattle.format.specs.LeafLaws.{below-drop, known-below}
 use Rattle.format.specs.Codec.{Outcome, found, refused, andThen, Explained}
-use Rattle.format.specs.FixedCodec.{spellFixed}
 use Rattle.format.specs.FixedCodecLaws.{fixed-lawful}
 use Rattle.format.specs.FixedLayoutLaws.{parsed-good}
 use Rattle.format.specs.AlternativeLaws.{told-tells}
-use Rattle.format.specs.Layout.{Layout, parse}
-use Rattle.format.specs.TranslateLaws.{translate-alone}
-use Rattle.drawing.specs.Codecs.{bytes, byteFields, wordFields}
+use Rattle.format.specs.Layout.{parse}
+use Rattle.drawing.specs.Codecs.{bytes, byteFields}
 use Rattle.drawing.specs.Limits.{lengthLimit}
 use Rattle.drawing.specs.Fields.{objectId}
 use Rattle.drawing.specs.String.{String}
-use Rattle.drawing.specs.Object.{Leaf, Object, leaf, group}
+use Rattle.drawing.specs.Object.{Leaf, leaf}
 use Rattle.drawing.specs.ObjectId.{leafLetter}
 use Rattle.drawing.specs.LeafLayout.{pathCase, otherCases, isLeaf, leafBody}
-use Rattle.drawing.specs.ObjectLayout.{object}
 use Rattle.drawing.specs.Table.{wordsOf, leafKind, leafWords, rows, bodies, rowWidth, row as rowWords, contents}
 use Rattle.laws.specs.CodecLaws.{bytes-sensible, bytes-literal}
-use Rattle.automaton.specs.declared.Expect.{Expect}
-use Rattle.automaton.specs.Afters.{leafStart}
-use Rattle.automaton.specs.Denote.{_⟫_, done, den}
-use Rattle.automaton.specs.Unfolds.{leaf-state}
-use Rattle.scanner.specs.Runs.{inWords}
+use Rattle.scanner.specs.Scans.{wordsAt}
 use Rattle.laws.specs.ParseLaws.{leaf-id, group-id, idKind, object-refused, object-leaf, object-group}
 use Rattle.store.specs.declared.Cursor.{Cursor}
 use Rattle.store.specs.declared.Reach.{Reach}
-use Rattle.store.specs.Splice as Body
-use Rattle.store.specs.Splice.{splice, Finish, finish, Fits, StoredBody}
-use Rattle.store.specs.SpliceLaws.{length-splice}
+use Rattle.store.specs.Bodies as Body
+use Rattle.store.specs.Bodies.{finish, Fits, StoredBody}
+use Rattle.format.specs.Pass.{splice}
+use Rattle.format.specs.SpliceLaws.{length-splice}
 use Rattle.laws.specs.ReadingLaws.{Read, read-found}
 use Rattle.store.specs.Rows.{kindByLetter, leaf-kind}
-use Rattle.store.specs.ObjectStores.{Table, tabled, RoomFor, Storable, Stored, objectAt, groupAt, objectRows, StorableObject, StoredObject}
+use Rattle.store.specs.ObjectStores.{tabled, RoomFor, Storable, objectAt, groupAt, objectRows, StorableObject, StoredObject}
 
 -- ---- an allowed id stands at the place
 
@@ -57,7 +50,6 @@ module _ (file : List ℕ) (known : (i : ℕ) → Val.Fits w8 (getD file i 0)) (
     pub reads : bytes .read (idKind v deep) (drop at file) ≡ found c (drop (at + 2) file)
     pub allowed : Allowed (idKind v deep) c
     pub inside : at + 2 ≤ length file
-    pub char : c < 65536
 
   here : (o : Outcome ℕ) → bytes .read (idKind v deep) (drop at file) ≡ o → (c : ℕ) → c ≡ number 256 (take 2 (drop at file)) → Id c
   here (found x rest) e c is =
@@ -68,12 +60,10 @@ module _ (file : List ℕ) (known : (i : ℕ) → Val.Fits w8 (getD file i 0)) (
       let same : x ≡ c = r .value-is ∙ sym is in
       let there : 2 ≤ length file - at = rw length-drop at (r .there) in
       let begin : at ≤ length file = storable .inside in
-      let fitting : x < 65536 = explained .3 .fits in
       record {
         reads = e ∙ ap₂ (λ y us. found y us) same (r .rest-is ∙ drop-drop 2 at file);
         allowed = subst (Allowed (idKind v deep)) same (explained .3);
         inside = omega arith;
-        char = omega arith;
       }
   here (refused n place) e c is =
       absurd (subst (RoomFor rows (λ x. bodies x v) (storable .allRows) (storable .allWords) row to) (object-refused v deep (drop at file) n place e) (storable .room))
@@ -84,9 +74,6 @@ module _ (file : List ℕ) (known : (i : ℕ) → Val.Fits w8 (getD file i 0)) (
   module _ (c : ℕ) (is : c ≡ number 256 (take 2 (drop at file))) where
     id : Id c
     id = here (bytes .read (idKind v deep) (drop at file)) refl c is
-
-    pub id-char : c < 65536
-    id-char = id .char
 
     -- ---- a group
 
@@ -140,7 +127,7 @@ module _ (file : List ℕ) (known : (i : ℕ) → Val.Fits w8 (getD file i 0)) (
         d : String
         rest : List ℕ
         object-is : objectAt file v deep at ≡ found (leaf l d) rest
-        words-are : inWords (den v (leafStart c)) (drop (at + 2) file) ≡ found (leafWords v l d) rest
+        words-are : wordsAt (leafBody v c) file (at + 2) ≡ found (leafWords v l d) rest
         kind-is : kindByLetter c ≡ leafKind l
         row-fits : row + 1 ≤ storable .allRows
         words-fit : to + length (leafWords v l d) ≤ storable .allWords
@@ -157,11 +144,6 @@ module _ (file : List ℕ) (known : (i : ℕ) → Val.Fits w8 (getD file i 0)) (
           as-object : objectAt file v deep at ≡ andThen (parse bytes (leafBody v c) (drop (at + 2) file)) (λ (l, d) rest. found (leaf l d) rest)
           as-object = object-leaf v deep (drop at file) c (drop (at + 2) file) (id .reads) leafy
 
-          as-words : inWords (den v (leafStart c)) (drop (at + 2) file) ≡ andThen (parse bytes (leafBody v c) (drop (at + 2) file)) (λ a rest. found (wordsOf (leafBody v c) a) rest)
-          as-words =
-              ap (λ script. inWords script (drop (at + 2) file)) (sym (leaf-state v c))
-              ∙ translate-alone bytes (fixed-lawful byteFields bytes-sensible) (spellFixed wordFields) (leafBody v c) tt (drop (at + 2) file) below
-
           by : (o : Outcome (Leaf × String)) → parse bytes (leafBody v c) (drop (at + 2) file) ≡ o → LeafHere
           by (found (l, d) rest) e =
               let object-is : objectAt file v deep at ≡ found (leaf l d) rest = as-object ∙ ap (λ o. andThen o (λ (l, d) rest. found (leaf l d) rest)) e in
@@ -172,7 +154,7 @@ module _ (file : List ℕ) (known : (i : ℕ) → Val.Fits w8 (getD file i 0)) (
                 d = d;
                 rest = rest;
                 object-is = object-is;
-                words-are = as-words ∙ ap (λ o. andThen o (λ a rest. found (wordsOf (leafBody v c) a) rest)) e ∙ ap (λ letter. found (wordsOf (leafBody v letter) (l, d)) rest) (sym tells);
+                words-are = ap (λ o. andThen o (λ a rest. found (wordsOf (leafBody v c) a) rest)) e ∙ ap (λ letter. found (wordsOf (leafBody v letter) (l, d)) rest) (sym tells);
                 kind-is = ap kindByLetter (sym tells) ∙ leaf-kind l;
                 row-fits = room .0;
                 words-fit = room .1;
@@ -180,11 +162,12 @@ module _ (file : List ℕ) (known : (i : ℕ) → Val.Fits w8 (getD file i 0)) (
           by (refused n place) e =
               absurd (subst (RoomFor rows (λ x. bodies x v) (storable .allRows) (storable .allWords) row to) (as-object ∙ ap (λ o. andThen o (λ (l, d) rest. found (leaf l d) rest)) e) (storable .room))
 
-      pub leaf-storable : Body.Storable file v (leafStart c) (at + 2) (length bs) to
+      pub leaf-storable : Body.Storable (leafBody v c) file (at + 2) (length bs) to
       leaf-storable =
           record {
             short = storable .short;
             inside = id .inside;
+            few = omega (arith, leaf-here .words-fit, storable .words-few);
             fits = subst (Fits (length bs) to) (sym (leaf-here .words-are)) (Nat.le-trans (leaf-here .words-fit) (storable .words-hold));
           }
 
@@ -194,7 +177,7 @@ module _ (file : List ℕ) (known : (i : ℕ) → Val.Fits w8 (getD file i 0)) (
           let more : rowWidth * (row + 1) ≤ rowWidth * storable .allRows = Nat.mul-le-mul-left rowWidth (leaf-here .row-fits) in
           (omega (arith, storable .rows-hold), omega (arith, leaf-here .row-fits, storable .rows-few), omega (arith, leaf-here .words-fit, storable .words-few))
 
-      module _ (bs′ : List ℕ) (cursor : Cursor) (body : StoredBody file v (leafStart c) (at + 2) to bs bs′ cursor) where
+      module _ (bs′ : List ℕ) (cursor : Cursor) (body : StoredBody (leafBody v c) file (at + 2) to bs bs′ cursor) where
         finished : record { memory = bs′; at = cursor .at; to = cursor .to } ≡ finish (length file) to bs (found (leafWords v (leaf-here .l) (leaf-here .d)) (leaf-here .rest))
         finished = body .says ∙ ap (finish (length file) to bs) (leaf-here .words-are)
 

@@ -1,8 +1,4 @@
-pub mod Splice
-pub mod SpliceLaws
-pub mod RunStoreLaws
-pub mod Transformation
-pub mod StepLaws
+pub mod Bodies
 pub mod BodyLaws
 pub mod Rows
 pub mod ObjectStores

@@ -1,27 +1,27 @@
 -- The laws of storing members one after another: what is left always comes to the same.
-use mathlib.Core.Path.{_≡_, refl, sym, ap, ap₂, subst, _∙_}
+use mathlib.Core.Path.{_≡_, refl, sym, ap, subst, _∙_}
 use Prim.Native.Nat.{ℕ, zero, suc, _+_, _-_, _*_, _<_, _≤_}
 use native.Mathlib.Nat as Nat
 use native.Mathlib.Omega.{arith}
-use mathlib.Core.List.{List, [], _∷_, _++_}
+use mathlib.Core.List.{List, _∷_, _++_}
 use lib.ListN.{length, drop, getD, length-append}
 use mir.Syntax.{w8}
 use mir.Val as Val
 use Rattle.format.specs.LeafLaws.{known-below}
 use Rattle.format.specs.Codec.{Outcome, found, refused, andThen}
 use Rattle.format.specs.Layout.{parse, repeat}
-use Rattle.format.specs.TranslateLaws.{parse-threaded}
+use Rattle.format.specs.ParsingLaws.{parse-threaded}
 use Rattle.drawing.specs.Codecs.{bytes}
-use Rattle.drawing.specs.Object.{Object, Objects, ofList}
+use Rattle.drawing.specs.Object.{Object, ofList}
 use Rattle.drawing.specs.ObjectLayout.{object}
 use Rattle.drawing.specs.Table.{rowWidth, rows, rowsAll, bodies, bodiesAll, contents, contentsAll}
 use Rattle.laws.specs.OrderLaws.{contents-length, contents-length-all}
 use Rattle.scanner.specs.ScanLaws.{place-of}
 use Rattle.laws.specs.ParseLaws.{Behind, behind}
 use Rattle.store.specs.declared.Reach.{Reach}
-use Rattle.store.specs.Splice.{splice}
-use Rattle.store.specs.SpliceLaws.{splice-nil, splice-behind}
-use Rattle.store.specs.ObjectStores.{Table, tabled, RoomFor, Storable, Stored, objectAt, membersAt, objectRows, memberRows, StorableObject, StorableMembers, StoredObject, StoredMembers}
+use Rattle.format.specs.Pass.{splice}
+use Rattle.format.specs.SpliceLaws.{splice-nil, splice-behind}
+use Rattle.store.specs.ObjectStores.{Table, tabled, RoomFor, objectAt, membersAt, objectRows, memberRows, StorableObject, StorableMembers, StoredObject, StoredMembers}
 
 abbrev membersTabled : (total version parent row to : ℕ) → (cs bs : List ℕ) → Outcome (List Object) → Table
 membersTabled total v parent row to cs bs o = tabled (λ os. rowsAll (ofList os)) (memberRows v parent) (λ os. bodiesAll (ofList os) v) total row to cs bs o

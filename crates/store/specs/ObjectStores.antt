@@ -4,15 +4,14 @@ use Prim.Native.Nat.{ℕ, _+_, _-_, _*_, _≤_}
 use mathlib.Core.List.{List}
 use lib.ListN.{length, drop}
 use Rattle.format.specs.Codec.{Outcome, found, refused, andThen}
-use Rattle.format.specs.Layout.{Layout, parse, repeat}
+use Rattle.format.specs.Layout.{parse, repeat}
 use Rattle.drawing.specs.Codecs.{bytes}
 use Rattle.drawing.specs.Limits.{lengthLimit}
-use Rattle.drawing.specs.String.{String}
-use Rattle.drawing.specs.Object.{Object, group, Objects, ofList}
+use Rattle.drawing.specs.Object.{Object, group, ofList}
 use Rattle.drawing.specs.ObjectLayout.{object, groupBody}
 use Rattle.drawing.specs.Table.{rowWidth, rows, rowsAll, bodies, bodiesAll, contents, contentsAll}
 use Rattle.store.specs.declared.Reach.{Reach}
-use Rattle.store.specs.Splice.{splice}
+use Rattle.format.specs.Pass.{splice}
 
 -- The lent memory, and the places behind what was read and stored.
 pub record Table : Type 0 where

@@ -1,19 +1,18 @@
 -- Rows stored word by word, and the kind of a leaf by its letter.
-use mathlib.Core.Path.{_≡_, refl, sym, ap, ap₂, _∙_}
+use mathlib.Core.Path.{_≡_, refl, ap, _∙_}
 use mathlib.Core.Bool.{cond}
-use Prim.Native.Nat.{ℕ, _+_, _*_, _%_, _^_, _<_, _≤_}
-use Prim.Native.Char.{code}
+use Prim.Native.Nat.{ℕ, _+_, _%_, _^_, _<_, _≤_}
 use native.Mathlib.Nat as Nat
 use native.Mathlib.Omega.{arith}
-use mathlib.Core.List.{List, [], _∷_, _++_}
+use mathlib.Core.List.{List, [], _∷_}
 use lib.Dec.{eqb}
 use lib.ListN.{length}
 use Rattle.format.specs.Digits.{digits}
 use Rattle.drawing.specs.Object.{Leaf, path, text, bitmap}
 use Rattle.drawing.specs.ObjectId.{leafLetter}
 use Rattle.drawing.specs.Table.{leafKind, row}
-use Rattle.store.specs.Splice.{splice}
-use Rattle.store.specs.SpliceLaws.{splice-behind}
+use Rattle.format.specs.Pass.{splice}
+use Rattle.format.specs.SpliceLaws.{splice-behind}
 
 abbrev pub kindByLetter : ℕ → ℕ
 kindByLetter c = cond (eqb c 84) 3 (cond (eqb c 73) 4 2)

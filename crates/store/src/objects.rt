@@ -1,11 +1,10 @@
 // Objects stored: an object that is a group calls the group's storing, which calls the object's back, and the depth left falls at each group.
 use crate::Reach;
-use crate::body::store_body;
+use crate::body::store_end;
+use crate::body::store_leaf;
 use crate::rows::leaf_kind;
 use crate::rows::store_row;
 use crate::words::store_word;
-use automaton::Expect;
-use automaton::after::leaf_start;
 use format::decode::char_at;
 use format::decode::word_at;
 ghost use lib.ListN.{length};
@@ -40,7 +39,7 @@ pub fn store_object(
             to,
         );
     }
-    let behind = store_body(file, version, leaf_start(letter as u16), at + 2, bodies, to);
+    let behind = store_leaf(file, version, letter as u64, at + 2, bodies, to);
     let next = behind.at;
     let end = behind.to;
     store_row(
@@ -90,7 +89,7 @@ pub fn store_group(
     let below = inner.row;
     let start = inner.to;
     store_word(bodies, start, members);
-    let behind = store_body(file, version, Expect::FlowFlag, next, bodies, start + 1);
+    let behind = store_end(file, version, next, bodies, start + 1);
     let last = behind.at;
     let end = behind.to;
     store_row(contents, row, 1, parent, start as u32, (end - start) as u32);

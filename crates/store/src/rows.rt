@@ -4,7 +4,7 @@ ghost use mathlib.Core.Path.{_≡_};
 ghost use Prim.Native.Nat.{_+_, _*_, _≤_};
 ghost use lib.ListN.{length};
 ghost use Rattle.drawing.specs.Table.{row};
-ghost use Rattle.store.specs.Splice.{splice};
+ghost use Rattle.format.specs.Pass.{splice};
 ghost use Rattle.store.specs.Rows.{kindByLetter};
 
 pub fn store_row(contents: &mut [u32], place: usize, kind: u32, parent: u32, start: u32, size: u32)

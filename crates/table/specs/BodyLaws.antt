@@ -12,7 +12,7 @@ use Rattle.format.specs.Codec.{Outcome, found, refused}
 use Rattle.format.specs.FixedLayoutLaws.{parsed-good}
 use Rattle.format.specs.Kind.{Kind}
 use Rattle.format.specs.Layout.{Layout, field, parse}
-use Rattle.format.specs.TranslateLaws.{parse-field}
+use Rattle.format.specs.ParsingLaws.{parse-field}
 use Rattle.drawing.specs.Codecs as Codecs
 use Rattle.drawing.specs.Codecs.{wordFields}
 use Rattle.drawing.specs.String.{equal}

@@ -11,7 +11,7 @@ use borrow.Author.Tests.{le-leb, lt-leb}
 use Rattle.format.specs.Digits.{Below, digits}
 use Rattle.format.specs.Codec.{found, refused, andThen}
 use Rattle.format.specs.Layout.{field, parse}
-use Rattle.format.specs.TranslateLaws.{parse-pair}
+use Rattle.format.specs.ParsingLaws.{parse-pair}
 use Rattle.drawing.specs.Codecs as Codecs
 use Rattle.drawing.specs.Limits.{lastMinor, lengthLimit}
 use Rattle.drawing.specs.Fields.{integerIn, jdr, versionZero}

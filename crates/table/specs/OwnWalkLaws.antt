@@ -9,7 +9,7 @@ use lib.ListN.{length, drop}
 use borrow.Author.Tests.{eq-eqb, ne-eqb}
 use Rattle.format.specs.Codec.{found, refused, andThen}
 use Rattle.format.specs.Layout.{field, parse}
-use Rattle.format.specs.TranslateLaws.{parse-pair}
+use Rattle.format.specs.ParsingLaws.{parse-pair}
 use Rattle.drawing.specs.Codecs as Codecs
 use Rattle.drawing.specs.Fields.{memberCount}
 use Rattle.drawing.specs.String.{String, equal}

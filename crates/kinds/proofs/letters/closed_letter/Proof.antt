@@ -1,5 +1,4 @@
-use Rattle.fields.specs.declared.Kind.the-variants.{PaintLetter, PlainLetter, ClosedLetter, SegmentLetter}
-use Rattle.fields.specs.Kinds.{kindOf}
+use Rattle.fields.specs.Letters.{closedLetter}
 use native.Mathlib.Omega.{arith}
 use mathlib.Core.Path.{refl, ap, _∙_}
 use Rattle.format.specs.Kind as K
@@ -36,7 +35,7 @@ same-length-2 c = search needs
 
 -- src/letters.rt:58:1
 returns : tie.Need-returns
-returns c = judged-asked (kindOf ClosedLetter) (any-ranged K.char 2 65535 7 refl refl refl) (omega arith) (c .before .before .before .before .before .before .before .before .before .before .before .before .before .before .pre) (c .before .before .before .before .before .before .before .field .ensures) (c .before .closed-fault .ensures) (c .judged .ensures)
+returns c = judged-asked closedLetter (any-ranged K.char 2 65535 7 refl refl refl) (omega arith) (c .before .before .before .before .before .before .before .before .before .before .before .before .before .before .pre) (c .before .before .before .before .before .before .before .field .ensures) (c .before .closed-fault .ensures) (c .judged .ensures)
 
 pub closed-letter-spec : {M : Type 1} → statement M
 closed-letter-spec =

@@ -17,9 +17,9 @@ use Rattle.scanner.proofs.objects.+scan_group+scan_members+scan_object.
 use Rattle.scanner.proofs.objects.scan_object.Reads as scan-object
 use Rattle.scanner.proofs.objects.scan_object.Kinds as scan-object-kinds
 use Rattle.scanner.proofs.objects.+scan_group+scan_members+scan_object.Lts-scan_object as scan-object-lts
-use Rattle.automaton.proofs.after.leaf_start.Reads as leaf-start-reads
 use Rattle.fields.proofs.turn.turn_at.Reads as turn-at-reads
-use Rattle.scanner.proofs.body.scan_body.Reads as scan-body-reads
+use Rattle.scanner.proofs.body.scan_end.Reads as scan-end-reads
+use Rattle.scanner.proofs.body.scan_leaf.Reads as scan-leaf-reads
 use Rattle.scanner.proofs.objects.+scan_group+scan_members+scan_object.{statement}
 use Rattle.scanner.proofs.objects.+scan_group+scan_members+scan_object.Tie.{close}
 
@@ -75,8 +75,8 @@ pub +scan-group+scan-members+scan-object-spec : {M : Type 1} → statement M
       turn-at-reads.Learnt,
       scan-members-below t,
       scan-members.Post,
-      scan-body-reads.Asked,
-      scan-body-reads.Learnt,
+      scan-end-reads.Asked,
+      scan-end-reads.Learnt,
     )
     (scan-group-at t)
     scan-group.Post
@@ -91,7 +91,7 @@ pub +scan-group+scan-members+scan-object-spec : {M : Type 1} → statement M
     (λ c κs. let p = group-tail (c .before .before .before .before .before .before .before .before .before .args .file .now) (c .before .before .before .before .before .before .before .before .shared-slice-known .given) (c .before .before .before .before .before .before .before .before .before .args .version) (c .before .before .before .before .before .before .before .before .before .args .deep) (c .before .before .before .before .before .before .before .before .before .args .at) (c .before .before .before .before .before .before .before .before .before .args .rows) (c .before .before .before .before .before .before .before .before .before .args .words) (c .before .before .before .before .before .before .before .before .before .pre .1) (c .before .before .before .before .before .before .before .turn-at .result) (c .before .before .before .before .before .before .before .turn-at .ensures) (c .before .before .before .before .before .count2 .given .0 .0) (c .before .before .before .before .before .count2 .given .1) (c .before .before .before .scan-members .result) (c .before .before .before .scan-members .ensures) (c .before .passed2 .given .0 .0) (c .before .passed2 .given .0 .1 .0) (c .before .passed2 .given .0 .1 .1 .0) (c .before .passed2 .given .1) in record { short = p .short; inside = p .inside; few = p .few-words })
     (λ c. group-fault (c .before .before .before .before .before .args .file .now) (c .before .before .before .before .shared-slice-known .given) (c .before .before .before .before .before .args .version) (c .before .before .before .before .before .args .deep) (c .before .before .before .before .before .args .at) (c .before .before .before .before .before .args .rows) (c .before .before .before .before .before .args .words) (c .before .before .before .before .before .pre .1) (c .before .before .before .turn-at .result) (c .before .before .before .turn-at .ensures) (c .before .count .given .0 .0) (c .before .count .given .1))
     (λ c. group-stop (c .before .before .before .before .before .before .before .before .before .args .file .now) (c .before .before .before .before .before .before .before .before .shared-slice-known .given) (c .before .before .before .before .before .before .before .before .before .args .version) (c .before .before .before .before .before .before .before .before .before .args .deep) (c .before .before .before .before .before .before .before .before .before .args .at) (c .before .before .before .before .before .before .before .before .before .args .rows) (c .before .before .before .before .before .before .before .before .before .args .words) (c .before .before .before .before .before .before .before .before .before .pre .1) (c .before .before .before .before .before .before .before .turn-at .result) (c .before .before .before .before .before .before .before .turn-at .ensures) (c .before .before .before .before .before .count2 .given .0 .0) (c .before .before .before .before .before .count2 .given .1) (c .before .before .before .scan-members .result) (c .before .before .before .scan-members .ensures) (c .before .passed .given .0 .0) (c .before .passed .given .0 .1 .0) (c .before .passed .given .1))
-    (λ c. group-end (c .before .before .before .before .before .before .before .before .before .before .args .file .now) (c .before .before .before .before .before .before .before .before .before .shared-slice-known .given) (c .before .before .before .before .before .before .before .before .before .before .args .version) (c .before .before .before .before .before .before .before .before .before .before .args .deep) (c .before .before .before .before .before .before .before .before .before .before .args .at) (c .before .before .before .before .before .before .before .before .before .before .args .rows) (c .before .before .before .before .before .before .before .before .before .before .args .words) (c .before .before .before .before .before .before .before .before .before .before .pre .1) (c .before .before .before .before .before .before .before .before .turn-at .result) (c .before .before .before .before .before .before .before .before .turn-at .ensures) (c .before .before .before .before .before .before .count2 .given .0 .0) (c .before .before .before .before .before .before .count2 .given .1) (c .before .before .before .before .scan-members .result) (c .before .before .before .before .scan-members .ensures) (c .before .before .passed2 .given .0 .0) (c .before .before .passed2 .given .0 .1 .0) (c .before .before .passed2 .given .0 .1 .1 .0) (c .before .before .passed2 .given .1) (c .scan-body .result) (c .scan-body .ensures)))
+    (λ c. group-end (c .before .before .before .before .before .before .before .before .before .before .args .file .now) (c .before .before .before .before .before .before .before .before .before .shared-slice-known .given) (c .before .before .before .before .before .before .before .before .before .before .args .version) (c .before .before .before .before .before .before .before .before .before .before .args .deep) (c .before .before .before .before .before .before .before .before .before .before .args .at) (c .before .before .before .before .before .before .before .before .before .before .args .rows) (c .before .before .before .before .before .before .before .before .before .before .args .words) (c .before .before .before .before .before .before .before .before .before .before .pre .1) (c .before .before .before .before .before .before .before .before .turn-at .result) (c .before .before .before .before .before .before .before .before .turn-at .ensures) (c .before .before .before .before .before .before .count2 .given .0 .0) (c .before .before .before .before .before .before .count2 .given .1) (c .before .before .before .before .scan-members .result) (c .before .before .before .before .scan-members .ensures) (c .before .before .passed2 .given .0 .0) (c .before .before .passed2 .given .0 .1 .0) (c .before .before .passed2 .given .0 .1 .1 .0) (c .before .before .passed2 .given .1) (c .scan-end .result) (c .scan-end .ensures)))
     (λ t. scan-members-lts.spec
     (scan-object-below t, scan-object.Post)
     (scan-members-at t)
@@ -112,10 +112,8 @@ pub +scan-group+scan-members+scan-object-spec : {M : Type 1} → statement M
       turn-at-reads.Learnt,
       scan-group-below t,
       scan-group.Post,
-      leaf-start-reads.Asked,
-      leaf-start-reads.Learnt,
-      scan-body-reads.Asked,
-      scan-body-reads.Learnt,
+      scan-leaf-reads.Asked,
+      scan-leaf-reads.Learnt,
     )
     (scan-object-at t)
     scan-object.Post
@@ -123,14 +121,12 @@ pub +scan-group+scan-members+scan-object-spec : {M : Type 1} → statement M
     (λ c. search needs)
     (λ c. search needs)
     (λ c. omega (arith, scan-object-deeper (c .before .before .before .before .before .before .args .file .now) (c .before .before .before .before .before .shared-slice-known .given) (c .before .before .before .before .before .before .args .version) (c .before .before .before .before .before .before .args .deep) (c .before .before .before .before .before .before .args .at) (c .before .before .before .before .before .before .args .rows) (c .before .before .before .before .before .before .args .words) (c .before .before .before .before .before .before .pre .1) (c .before .before .before .before .turn-at .result) (c .before .before .before .before .turn-at .ensures) (c .before .before .id2 .given .1 ∙ ap Turn.Value (c .if1 .taken))))
-    (λ c. let i = scan-object-id (c .before .before .before .before .before .before .args .file .now) (c .before .before .before .before .before .shared-slice-known .given) (c .before .before .before .before .before .before .args .version) (c .before .before .before .before .before .before .args .deep) (c .before .before .before .before .before .before .args .at) (c .before .before .before .before .before .before .args .rows) (c .before .before .before .before .before .before .args .words) (c .before .before .before .before .before .before .pre .1) (c .before .before .before .before .turn-at .result) (c .before .before .before .before .turn-at .ensures) (c .before .before .id2 .given .0 .0) (c .before .before .id2 .given .1) in omega (arith, i .1 .inside, i .1 .few-rows, i .1 .short))
-    (λ c. let i = scan-object-id (c .before .before .before .before .before .before .args .file .now) (c .before .before .before .before .before .shared-slice-known .given) (c .before .before .before .before .before .before .args .version) (c .before .before .before .before .before .before .args .deep) (c .before .before .before .before .before .before .args .at) (c .before .before .before .before .before .before .args .rows) (c .before .before .before .before .before .before .args .words) (c .before .before .before .before .before .before .pre .1) (c .before .before .before .before .turn-at .result) (c .before .before .before .before .turn-at .ensures) (c .before .before .id2 .given .0 .0) (c .before .before .id2 .given .1) in omega (arith, i .1 .inside, i .1 .few-rows, i .1 .short))
-    (λ c κs. (omega (arith, c .before .before .before .before .before .before .pre .0, scan-object-deeper (c .before .before .before .before .before .before .args .file .now) (c .before .before .before .before .before .shared-slice-known .given) (c .before .before .before .before .before .before .args .version) (c .before .before .before .before .before .before .args .deep) (c .before .before .before .before .before .before .args .at) (c .before .before .before .before .before .before .args .rows) (c .before .before .before .before .before .before .args .words) (c .before .before .before .before .before .before .pre .1) (c .before .before .before .before .turn-at .result) (c .before .before .before .before .turn-at .ensures) (c .before .before .id2 .given .1 ∙ ap Turn.Value (c .if1 .taken))), scan-object-id (c .before .before .before .before .before .before .args .file .now) (c .before .before .before .before .before .shared-slice-known .given) (c .before .before .before .before .before .before .args .version) (c .before .before .before .before .before .before .args .deep) (c .before .before .before .before .before .before .args .at) (c .before .before .before .before .before .before .args .rows) (c .before .before .before .before .before .before .args .words) (c .before .before .before .before .before .before .pre .1) (c .before .before .before .before .turn-at .result) (c .before .before .before .before .turn-at .ensures) (c .before .before .id2 .given .0 .0) (c .before .before .id2 .given .1) .1))
+    (λ c. let i = scan-object-id (c .before .before .before .before .before .before .args .file .now) (c .before .before .before .before .before .shared-slice-known .given) (c .before .before .before .before .before .before .args .version) (c .before .before .before .before .before .before .args .deep) (c .before .before .before .before .before .before .args .at) (c .before .before .before .before .before .before .args .rows) (c .before .before .before .before .before .before .args .words) (c .before .before .before .before .before .before .pre .1) (c .before .before .before .before .turn-at .result) (c .before .before .before .before .turn-at .ensures) (c .before .before .id2 .given .0 .0) (c .before .before .id2 .given .1) in omega (arith, i .0 .inside, i .0 .few-rows, i .0 .short))
+    (λ c. let i = scan-object-id (c .before .before .before .before .before .before .args .file .now) (c .before .before .before .before .before .shared-slice-known .given) (c .before .before .before .before .before .before .args .version) (c .before .before .before .before .before .before .args .deep) (c .before .before .before .before .before .before .args .at) (c .before .before .before .before .before .before .args .rows) (c .before .before .before .before .before .before .args .words) (c .before .before .before .before .before .before .pre .1) (c .before .before .before .before .turn-at .result) (c .before .before .before .before .turn-at .ensures) (c .before .before .id2 .given .0 .0) (c .before .before .id2 .given .1) in omega (arith, i .0 .inside, i .0 .few-rows, i .0 .short))
+    (λ c κs. (omega (arith, c .before .before .before .before .before .before .pre .0, scan-object-deeper (c .before .before .before .before .before .before .args .file .now) (c .before .before .before .before .before .shared-slice-known .given) (c .before .before .before .before .before .before .args .version) (c .before .before .before .before .before .before .args .deep) (c .before .before .before .before .before .before .args .at) (c .before .before .before .before .before .before .args .rows) (c .before .before .before .before .before .before .args .words) (c .before .before .before .before .before .before .pre .1) (c .before .before .before .before .turn-at .result) (c .before .before .before .before .turn-at .ensures) (c .before .before .id2 .given .1 ∙ ap Turn.Value (c .if1 .taken))), scan-object-id (c .before .before .before .before .before .before .args .file .now) (c .before .before .before .before .before .shared-slice-known .given) (c .before .before .before .before .before .before .args .version) (c .before .before .before .before .before .before .args .deep) (c .before .before .before .before .before .before .args .at) (c .before .before .before .before .before .before .args .rows) (c .before .before .before .before .before .before .args .words) (c .before .before .before .before .before .before .pre .1) (c .before .before .before .before .turn-at .result) (c .before .before .before .before .turn-at .ensures) (c .before .before .id2 .given .0 .0) (c .before .before .id2 .given .1) .0))
     (λ c. scan-object-group (c .before .before .before .before .before .before .before .args .file .now) (c .before .before .before .before .before .before .shared-slice-known .given) (c .before .before .before .before .before .before .before .args .version) (c .before .before .before .before .before .before .before .args .deep) (c .before .before .before .before .before .before .before .args .at) (c .before .before .before .before .before .before .before .args .rows) (c .before .before .before .before .before .before .before .args .words) (c .before .before .before .before .before .before .before .pre .1) (c .before .before .before .before .before .turn-at .result) (c .before .before .before .before .before .turn-at .ensures) (c .before .before .before .id2 .given .1 ∙ ap Turn.Value (c .before .if1 .taken)) (c .scan-group .result) (c .scan-group .ensures))
-    (λ c. omega (arith, scan-object-id (c .before .before .before .before .before .before .args .file .now) (c .before .before .before .before .before .shared-slice-known .given) (c .before .before .before .before .before .before .args .version) (c .before .before .before .before .before .before .args .deep) (c .before .before .before .before .before .before .args .at) (c .before .before .before .before .before .before .args .rows) (c .before .before .before .before .before .before .args .words) (c .before .before .before .before .before .before .pre .1) (c .before .before .before .before .turn-at .result) (c .before .before .before .before .turn-at .ensures) (c .before .before .id2 .given .0 .0) (c .before .before .id2 .given .1) .0))
-    (λ c κs. search needs)
-    (λ c. let i = scan-object-id (c .before .before .before .before .before .before .before .args .file .now) (c .before .before .before .before .before .before .shared-slice-known .given) (c .before .before .before .before .before .before .before .args .version) (c .before .before .before .before .before .before .before .args .deep) (c .before .before .before .before .before .before .before .args .at) (c .before .before .before .before .before .before .before .args .rows) (c .before .before .before .before .before .before .before .args .words) (c .before .before .before .before .before .before .before .pre .1) (c .before .before .before .before .before .turn-at .result) (c .before .before .before .before .before .turn-at .ensures) (c .before .before .before .id2 .given .0 .0) (c .before .before .before .id2 .given .1) in omega (arith, i .1 .inside, i .1 .few-rows, i .1 .short))
-    (λ c. let i = scan-object-id (c .before .before .before .before .before .before .before .args .file .now) (c .before .before .before .before .before .before .shared-slice-known .given) (c .before .before .before .before .before .before .before .args .version) (c .before .before .before .before .before .before .before .args .deep) (c .before .before .before .before .before .before .before .args .at) (c .before .before .before .before .before .before .before .args .rows) (c .before .before .before .before .before .before .before .args .words) (c .before .before .before .before .before .before .before .pre .1) (c .before .before .before .before .before .turn-at .result) (c .before .before .before .before .before .turn-at .ensures) (c .before .before .before .id2 .given .0 .0) (c .before .before .before .id2 .given .1) in omega (arith, i .1 .inside, i .1 .few-rows, i .1 .short))
-    (λ c κs. scan-object-id (c .before .before .before .before .before .before .before .args .file .now) (c .before .before .before .before .before .before .shared-slice-known .given) (c .before .before .before .before .before .before .before .args .version) (c .before .before .before .before .before .before .before .args .deep) (c .before .before .before .before .before .before .before .args .at) (c .before .before .before .before .before .before .before .args .rows) (c .before .before .before .before .before .before .before .args .words) (c .before .before .before .before .before .before .before .pre .1) (c .before .before .before .before .before .turn-at .result) (c .before .before .before .before .before .turn-at .ensures) (c .before .before .before .id2 .given .0 .0) (c .before .before .before .id2 .given .1) .2)
+    (λ c. let i = scan-object-id (c .before .before .before .before .before .before .args .file .now) (c .before .before .before .before .before .shared-slice-known .given) (c .before .before .before .before .before .before .args .version) (c .before .before .before .before .before .before .args .deep) (c .before .before .before .before .before .before .args .at) (c .before .before .before .before .before .before .args .rows) (c .before .before .before .before .before .before .args .words) (c .before .before .before .before .before .before .pre .1) (c .before .before .before .before .turn-at .result) (c .before .before .before .before .turn-at .ensures) (c .before .before .id2 .given .0 .0) (c .before .before .id2 .given .1) in omega (arith, i .0 .inside, i .0 .few-rows, i .0 .short))
+    (λ c. let i = scan-object-id (c .before .before .before .before .before .before .args .file .now) (c .before .before .before .before .before .shared-slice-known .given) (c .before .before .before .before .before .before .args .version) (c .before .before .before .before .before .before .args .deep) (c .before .before .before .before .before .before .args .at) (c .before .before .before .before .before .before .args .rows) (c .before .before .before .before .before .before .args .words) (c .before .before .before .before .before .before .pre .1) (c .before .before .before .before .turn-at .result) (c .before .before .before .before .turn-at .ensures) (c .before .before .id2 .given .0 .0) (c .before .before .id2 .given .1) in omega (arith, i .0 .inside, i .0 .few-rows, i .0 .short))
+    (λ c κs. scan-object-id (c .before .before .before .before .before .before .args .file .now) (c .before .before .before .before .before .shared-slice-known .given) (c .before .before .before .before .before .before .args .version) (c .before .before .before .before .before .before .args .deep) (c .before .before .before .before .before .before .args .at) (c .before .before .before .before .before .before .args .rows) (c .before .before .before .before .before .before .args .words) (c .before .before .before .before .before .before .pre .1) (c .before .before .before .before .turn-at .result) (c .before .before .before .before .turn-at .ensures) (c .before .before .id2 .given .0 .0) (c .before .before .id2 .given .1) .1)
     (λ c. scan-object-fault (c .before .before .before .before .before .args .file .now) (c .before .before .before .before .shared-slice-known .given) (c .before .before .before .before .before .args .version) (c .before .before .before .before .before .args .deep) (c .before .before .before .before .before .args .at) (c .before .before .before .before .before .args .rows) (c .before .before .before .before .before .args .words) (c .before .before .before .before .before .pre .1) (c .before .before .before .turn-at .result) (c .before .before .before .turn-at .ensures) (c .before .id .given .0 .0) (c .before .id .given .1))
-    (λ c. scan-object-leaf (c .before .before .before .before .before .before .before .before .args .file .now) (c .before .before .before .before .before .before .before .shared-slice-known .given) (c .before .before .before .before .before .before .before .before .args .version) (c .before .before .before .before .before .before .before .before .args .deep) (c .before .before .before .before .before .before .before .before .args .at) (c .before .before .before .before .before .before .before .before .args .rows) (c .before .before .before .before .before .before .before .before .args .words) (c .before .before .before .before .before .before .before .before .pre .1) (c .before .before .before .before .before .before .turn-at .result) (c .before .before .before .before .before .before .turn-at .ensures) (c .before .before .before .before .id2 .given .0 .0) (c .before .before .before .before .id2 .given .1) (c .before .before .if1 .left) (c .scan-body .result) (rw (c .before .leaf-start .ensures) at (c .scan-body .ensures)))
+    (λ c. scan-object-leaf (c .before .before .before .before .before .before .before .args .file .now) (c .before .before .before .before .before .before .shared-slice-known .given) (c .before .before .before .before .before .before .before .args .version) (c .before .before .before .before .before .before .before .args .deep) (c .before .before .before .before .before .before .before .args .at) (c .before .before .before .before .before .before .before .args .rows) (c .before .before .before .before .before .before .before .args .words) (c .before .before .before .before .before .before .before .pre .1) (c .before .before .before .before .before .turn-at .result) (c .before .before .before .before .before .turn-at .ensures) (c .before .before .before .id2 .given .0 .0) (c .before .before .before .id2 .given .1) (c .before .if1 .left) (c .scan-leaf .result) (c .scan-leaf .ensures))

@@ -1,5 +1,4 @@
 -- `store::rows::leaf_kind` meets its contract.
-use borrow.Author.Needs.{needs}
 use Rattle.fields.specs.Tests.{tests}
 use Rattle.store.proofs.rows.leaf_kind.Statement.{statement}
 use Rattle.store.proofs.rows.leaf_kind.Tie as tie

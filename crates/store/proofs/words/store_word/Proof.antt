@@ -1,7 +1,8 @@
 -- `store::words::store_word` meets its contract.
 use native.Mathlib.Omega.{arith}
 use borrow.Author.Needs.{needs}
-use Rattle.store.specs.SpliceLaws.{set-splice}
+use Prim.Native.Nat.{_^_}
+use Rattle.format.specs.LeafLaws.{put-one}
 use Rattle.store.proofs.words.store_word.Statement.{statement}
 use Rattle.store.proofs.words.store_word.Tie as tie
 
@@ -12,4 +13,4 @@ store-word-spec =
     (λ c. search needs)
     (λ c. search needs)
     (λ c. search needs)
-    (λ c. set-splice (c .args .words .now) (c .args .to) (c .args .value) (omega arith) (omega arith)))
+    (λ c. put-one (2 ^ 32) (c .args .words .now) (c .args .to) (c .args .value) (omega arith) (omega arith)))

@@ -1,0 +1,15 @@
+-- `store::body::store_end` meets its contract.
+use Rattle.store.specs.BodyLaws.{body-stored}
+use borrow.Author.Needs.{needs}
+use Rattle.store.proofs.body.store_end.Statement.{statement}
+use Rattle.store.proofs.body.store_end.Tie as tie
+
+pub store-end-spec : {M : Type 1} → statement M
+store-end-spec =
+    tie.close
+    (tie.spec
+    (λ c. search needs)
+    (λ c. search needs)
+    (λ c κs. search needs)
+    (λ c. search needs)
+    (λ c. body-stored (c .before .before .before .before .before .before .before .before .shared-slice-known .given) (c .before .before .before .before .before .before .before .before .before .pre) (c .before .before .before .object-end .ensures)))
