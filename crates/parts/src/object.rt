@@ -29,7 +29,7 @@ pub fn object_end(
     string(file, words, bodies, out, reverse, behind, 0)
 }
 
-fn leaf_parts(
+pub fn leaf_parts(
     file: &[u8],
     words: &[u32],
     bodies: &mut [u32],

@@ -11,7 +11,7 @@ ghost use Rattle.drawing.specs.Choices.{ifFlag};
 ghost use Rattle.drawing.specs.Text.{font, latex, text};
 ghost use Rattle.passes.specs.Carries.{Begins, Carries};
 
-fn font(
+pub fn font(
     file: &[u8],
     words: &[u32],
     bodies: &mut [u32],
