@@ -1,0 +1,77 @@
+use borrow.Author.Needs.{needs}
+use Rattle.questions.proofs.rows.end_of.Statement.{statement}
+use Rattle.questions.proofs.rows.end_of.Tie as tie
+use Rattle.questions.proofs.rows.end_of.Reads as reads
+use Rattle.questions.proofs.rows.end_of.Lts as lts
+use Rattle.questions.proofs.rows.leaf_fields.Reads as leaf-fields-reads
+use Rattle.table.proofs.rows.letter_of.Reads as letter-of-reads
+
+-- src/rows.rt:37:25
+mul-kind : tie.Need-mul-kind
+mul-kind c = search needs
+
+-- src/rows.rt:37:16
+mul-kind-2 : tie.Need-mul-kind-2
+mul-kind-2 c = search needs
+
+-- src/rows.rt:37:16
+shared-slice-read-kind : tie.Need-shared-slice-read-kind
+shared-slice-read-kind c = search needs
+
+-- src/rows.rt:38:26
+mul-start : tie.Need-mul-start
+mul-start c = search needs
+
+-- src/rows.rt:38:26
+add-start : tie.Need-add-start
+add-start c = search needs
+
+-- src/rows.rt:38:17
+mul-start-2 : tie.Need-mul-start-2
+mul-start-2 c = search needs
+
+-- src/rows.rt:38:17
+shared-slice-read-start : tie.Need-shared-slice-read-start
+shared-slice-read-start c = search needs
+
+-- src/rows.rt:38:17
+cast-start : tie.Need-cast-start
+cast-start c = search needs
+
+-- src/rows.rt:40:16
+add-result : tie.Need-add-result
+add-result c = search needs
+
+-- src/rows.rt:40:9
+returns : tie.Need-returns
+returns c = ?
+
+-- src/rows.rt:42:9
+letter-of-requires : tie.Need-letter-of-requires
+letter-of-requires c κs = search needs
+
+-- src/rows.rt:43:9
+leaf-fields-requires : tie.Need-leaf-fields-requires
+leaf-fields-requires c κs = search needs
+
+-- src/rows.rt:33:1
+returns-2 : tie.Need-returns-2
+returns-2 c = ?
+
+pub end-of-spec : {M : Type 1} → statement M
+end-of-spec =
+    tie.close
+    (tie.spec
+    mul-kind
+    mul-kind-2
+    shared-slice-read-kind
+    mul-start
+    add-start
+    mul-start-2
+    shared-slice-read-start
+    cast-start
+    add-result
+    returns
+    letter-of-requires
+    leaf-fields-requires
+    returns-2)

@@ -1,0 +1,116 @@
+-- Whether a row's object has a label: told by the last words of its body, and by where its end begins.
+use mathlib.Core.Path.{_≡_, refl, sym, ap, ap₂, subst, _∙_}
+use mathlib.Core.Bool.{Bool, true, false, false≢true}
+use Prim.Native.Nat.{ℕ, suc, _+_, _-_, _^_, _<_, _≤_}
+use native.Mathlib.Omega.{arith}
+use mathlib.Core.List.{List, [], _∷_, _++_, append-assoc}
+use lib.Dec.{eqb}
+use lib.ListN.{length, take, drop, getD, length-append}
+use lib.Seq.{drop-at, drop-drop, getD-drop, take-at}
+use borrow.Author.Tests.{eq-eqb, ne-eqb, eqb-true, eqb-false}
+use Rattle.format.specs.Alternative.{told}
+use Rattle.format.specs.Digits.{digits}
+use Rattle.drawing.specs.String.{equal}
+use Rattle.drawing.specs.Object.{Object, leaf, group, listOf}
+use Rattle.drawing.specs.ObjectId.{leafLetter}
+use Rattle.drawing.specs.LeafLayout.{pathCase, otherCases, objectEnd}
+use Rattle.drawing.specs.Table.{wordsOf, startIn}
+use Rattle.drawing.specs.Order.{descriptionOf}
+use Rattle.laws.specs.EqualLaws.{equal-refl, equal-true}
+use Rattle.questions.specs.RowBodies.{ownWords, RowBody}
+use Rattle.questions.specs.RowBodyLaws.{leaf-words, group-own-words, end-words, end-words-early}
+use Rattle.questions.specs.Rows.{EndsAt}
+
+equal-not : (xs ys : List ℕ) → (xs ≡ ys → ⊥) → false ≡ equal xs ys
+equal-not xs ys other = by (equal xs ys) refl
+  where
+    by : (t : Bool) → equal xs ys ≡ t → false ≡ equal xs ys
+    by true is = absurd (other (equal-true xs ys is))
+    by false is = sym is
+
+-- The end of a row's object is good.
+end-good : (c bs : List ℕ) (v r : ℕ) (o : Object) → RowBody c bs v r o → objectEnd v .Good (descriptionOf o)
+end-good c bs v r (leaf l d) row = row .good .1
+end-good c bs v r (group os d) row = row .good .1
+
+-- An object's own words are some fields and then its end.
+own-split : (v : ℕ) (o : Object) → (front : List ℕ) × (ownWords v o ≡ front ++ wordsOf (objectEnd v) (descriptionOf o))
+own-split v (leaf l d) = (wordsOf (told (pathCase v) (otherCases v) (leafLetter l)) l, leaf-words v l d)
+own-split v (group os d) = (digits (2 ^ 32) 1 (length (listOf os)), group-own-words v (length (listOf os)) d)
+
+-- So the end stands somewhere.
+some-end : (c bs : List ℕ) (v r : ℕ) (o : Object) → RowBody c bs v r o → (behind : ℕ) × EndsAt c bs v r o behind
+some-end c bs v r o row =
+    let front = own-split v o .0 in
+    let W = wordsOf (objectEnd v) (descriptionOf o) in
+    let stands : drop (startIn c r) bs ≡ front ++ (W ++ row .rest) = row .words-are ∙ ap (λ l. l ++ row .rest) (own-split v o .1) ∙ append-assoc front W (row .rest) in
+    let long : length (ownWords v o) ≡ length front + length W = ap length (own-split v o .1) ∙ length-append front W in (
+      startIn c r + length front,
+      record {
+        rest = row .rest;
+        there = sym (drop-drop (length front) (startIn c r) bs) ∙ ap (drop (length front)) stands ∙ drop-at front (W ++ row .rest) (length front) refl;
+        end-is = omega (arith, long);
+      },
+    )
+
+module _ (c bs : List ℕ) (v r : ℕ) (label : List ℕ) where
+  -- Below 1.2 every description is empty.
+  pub label-early : v < 2 → (o : Object) → RowBody c bs v r o → eqb (length label) 0 ≡ equal (descriptionOf o) label
+  label-early early o row = by label ∙ ap (λ d. equal d label) (sym (end-words-early v (descriptionOf o) early (end-good c bs v r o row) .1))
+    where
+      by : (l : List ℕ) → eqb (length l) 0 ≡ equal [] l
+      by [] = refl
+      by (x ∷ xs) = ne-eqb (suc (length xs)) 0 (λ e. omega (arith, e))
+
+  -- From 1.2 on the end is the flag, the number of chars, and the chars.
+  module _ (late : 2 ≤ v) (o : Object) (row : RowBody c bs v r o) where
+    words-are : wordsOf (objectEnd v) (descriptionOf o) ≡ 0 ∷ length (descriptionOf o) ∷ descriptionOf o
+    words-are = end-words v (descriptionOf o) late (end-good c bs v r o row)
+
+    size : length (wordsOf (objectEnd v) (descriptionOf o)) ≡ 2 + length (descriptionOf o)
+    size = ap length words-are ∙ omega arith
+
+    own-long : length (ownWords v o) ≡ length (own-split v o .0) + length (wordsOf (objectEnd v) (descriptionOf o))
+    own-long = ap length (own-split v o .1) ∙ length-append (own-split v o .0) (wordsOf (objectEnd v) (descriptionOf o))
+
+    pub two-words : 2 ≤ length (ownWords v o)
+    two-words = omega (arith, size, own-long)
+
+    module _ (behind : ℕ) (e : EndsAt c bs v r o behind) (from : ℕ) (from-is : from + length label ≡ startIn c r + length (ownWords v o)) where
+      stands : drop behind bs ≡ (0 ∷ length (descriptionOf o) ∷ descriptionOf o) ++ e .rest
+      stands = e .there ∙ ap (λ l. l ++ e .rest) words-are
+
+      -- Where the label is as long as the description, these are its number and its chars.
+      same-place : length (descriptionOf o) ≡ length label → from ≡ behind + 2
+      same-place same = omega (arith, from-is, e .end-is, size, same)
+
+      chars-there : length (descriptionOf o) ≡ length label → take (length label) (drop from bs) ≡ descriptionOf o
+      chars-there same =
+          ap (λ n. take (length label) (drop n bs)) (same-place same)
+          ∙ ap (take (length label)) (sym (drop-drop 2 behind bs) ∙ ap (drop 2) stands)
+          ∙ take-at (descriptionOf o) (e .rest) (length label) same
+
+      number-there : length (descriptionOf o) ≡ length label → getD bs (from - 1) 0 ≡ length label
+      number-there same =
+          let one : from - 1 ≡ behind + 1 = omega (arith, same-place same) in
+          ap (λ n. getD bs n 0) one ∙ sym (getD-drop behind bs 1 0) ∙ ap (λ l. getD l 1 0) stands ∙ same
+
+      pub other-number : (getD bs (from - 1) 0 ≡ length label → ⊥) → false ≡ equal (descriptionOf o) label
+      other-number other = equal-not (descriptionOf o) label (λ same. other (number-there (ap length same)))
+
+      pub other-chars : equal (take (length label) (drop from bs)) label ≡ false → false ≡ equal (descriptionOf o) label
+      other-chars other =
+          equal-not (descriptionOf o) label (λ same.
+          false≢true (sym other ∙ ap (λ l. equal l label) (chars-there (ap length same) ∙ same) ∙ equal-refl label))
+
+      pub told-by-end : equal (take (length label) (drop from bs)) label ≡ true → eqb (behind + 2) from ≡ equal (descriptionOf o) label
+      told-by-end same-chars = by (eqb (behind + 2) from) refl
+        where
+          by : (t : Bool) → eqb (behind + 2) from ≡ t → eqb (behind + 2) from ≡ equal (descriptionOf o) label
+          by true is =
+              let same : length (descriptionOf o) ≡ length label = omega (arith, eqb-true (behind + 2) from is, from-is, e .end-is, size) in
+              is ∙ sym (ap (λ l. equal l label) (sym (chars-there same)) ∙ same-chars)
+          by false is = is ∙ equal-not (descriptionOf o) label (λ same. eqb-false (behind + 2) from is (sym (same-place (ap length same))))
+
+    pub too-long : length (ownWords v o) - 2 < length label → false ≡ equal (descriptionOf o) label
+    too-long long = equal-not (descriptionOf o) label (λ same. omega (arith, own-long, size, long, ap length same))

@@ -1,0 +1,5 @@
+// Questions about a table's rows.
+pub mod entries;
+pub mod label;
+pub mod list;
+pub mod rows;
