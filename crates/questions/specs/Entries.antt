@@ -8,7 +8,7 @@ use Rattle.drawing.specs.String.{String}
 use Rattle.drawing.specs.Object.{Object}
 use Rattle.drawing.specs.Drawing.{Drawing}
 use Rattle.drawing.specs.Table.{IsTable}
-use Rattle.drawing.specs.Order.{entriesFrom, entries}
+use Rattle.drawing.specs.Order.{objectsOf, entriesFrom, entries}
 use Rattle.drawing.specs.Answers.{rowsOf}
 use Rattle.table.specs.Walks.{Writes}
 
@@ -34,6 +34,12 @@ pub record Gathering (label : String) (objects : List Object) (row count : ℕ) 
   pub count-is : count ≡ length done
   pub few : length done ≤ row
   pub written : Writes 0 done list list′
+
+-- The same for the rows of a table.
+pub record Listing (contents bodies : List ℕ) (label : String) (rows version row count : ℕ) (list list′ : List ℕ) : Type 0 where
+  pub table : TableHere contents bodies rows version
+  pub gathering : Gathering label (objectsOf (table .d)) row count list list′
+  pub most : row ≤ rows
 
 -- All of a drawing's are counted, and stand in the list if there is room for them.
 pub record Gathered (label : String) (d : Drawing) (list list′ : List ℕ) (r : ℕ) : Type 0 where

@@ -29,7 +29,7 @@ equal-not xs ys other = by (equal xs ys) refl
     by false is = sym is
 
 -- The end of a row's object is good.
-end-good : (c bs : List ℕ) (v r : ℕ) (o : Object) → RowBody c bs v r o → objectEnd v .Good (descriptionOf o)
+pub end-good : (c bs : List ℕ) (v r : ℕ) (o : Object) → RowBody c bs v r o → objectEnd v .Good (descriptionOf o)
 end-good c bs v r (leaf l d) row = row .good .1
 end-good c bs v r (group os d) row = row .good .1
 
@@ -39,7 +39,7 @@ own-split v (leaf l d) = (wordsOf (told (pathCase v) (otherCases v) (leafLetter 
 own-split v (group os d) = (digits (2 ^ 32) 1 (length (listOf os)), group-own-words v (length (listOf os)) d)
 
 -- So the end stands somewhere.
-some-end : (c bs : List ℕ) (v r : ℕ) (o : Object) → RowBody c bs v r o → (behind : ℕ) × EndsAt c bs v r o behind
+pub some-end : (c bs : List ℕ) (v r : ℕ) (o : Object) → RowBody c bs v r o → (behind : ℕ) × EndsAt c bs v r o behind
 some-end c bs v r o row =
     let front = own-split v o .0 in
     let W = wordsOf (objectEnd v) (descriptionOf o) in

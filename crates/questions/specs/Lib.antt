@@ -8,3 +8,4 @@ pub mod Lists
 pub mod CharLaws
 pub mod EndLaws
 pub mod LabelLaws
+pub mod ListLaws

@@ -1,3 +1,7 @@
+use Rattle.questions.specs.EndLaws.{group-end, leaf-end}
+use Rattle.format.specs.LeafLaws.{known-below}
+use mir.Syntax.{w32}
+use mathlib.Core.Path.{refl}
 use borrow.Author.Needs.{needs}
 use Rattle.questions.proofs.rows.end_of.Statement.{statement}
 use Rattle.questions.proofs.rows.end_of.Tie as tie
@@ -44,7 +48,7 @@ add-result c = search needs
 
 -- src/rows.rt:40:9
 returns : tie.Need-returns
-returns c = ?
+returns c = λ o body. group-end (c .before .before .before .before .before .args .contents .now) (c .before .before .before .before .before .args .words .now) (c .before .before .before .before .before .args .version) (c .before .before .before .before .before .args .row) o body (c .if1 .taken)
 
 -- src/rows.rt:42:9
 letter-of-requires : tie.Need-letter-of-requires
@@ -56,7 +60,7 @@ leaf-fields-requires c κs = search needs
 
 -- src/rows.rt:33:1
 returns-2 : tie.Need-returns-2
-returns-2 c = ?
+returns-2 c = λ o body. leaf-end (c .before .before .before .before .before .before .before .args .contents .now) (c .before .before .before .before .before .before .before .args .words .now) (c .before .before .before .before .before .before .before .args .version) (c .before .before .before .before .before .before .before .args .row) o body (c .before .before .if1 .left) (c .before .letter-of .ensures .0) (known-below w32 (c .before .before .before .before .before .before .before .args .words .now) (c .before .before .before .before .before .shared-slice-known2 .given)) refl refl (c .leaf-fields .ensures)
 
 pub end-of-spec : {M : Type 1} → statement M
 end-of-spec =
