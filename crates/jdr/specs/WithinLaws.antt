@@ -1,17 +1,18 @@
--- The table of a file that `read` accepts lies within the lent runs.
+-- The table of a file that `read` accepts lies within the lent runs, and so does the file that `write` writes.
 use mathlib.Core.Path.{_≡_, sym, ap, subst, _∙_}
-use Prim.Native.Nat.{ℕ}
+use Prim.Native.Nat.{ℕ, _^_}
 use mathlib.Core.List.{List}
 use lib.ListN.{length, getD}
-use mir.Syntax.{w8}
+use mir.Syntax.{w8, w32}
 use mir.Val.{Fits}
 use native.Mathlib.Omega.{arith}
 use Rattle.format.specs.Digits.{Below}
 use Rattle.format.specs.LeafLaws.{known-below}
 use Rattle.drawing.specs.declared.Answer.{Answer}
-use Rattle.drawing.specs.Answers.{ReadResult, readResult, Reads}
-use Rattle.laws.specs.AnswerLaws.{Accepted, read-accepts, read-gives}
-use Rattle.jdr.specs.Within.{Within}
+use Rattle.drawing.specs.Answers.{ReadResult, readResult, Reads, Output, writeOutput, Writes}
+use Rattle.laws.specs.AnswerLaws.{Accepted, read-accepts, read-gives, Writable, write-accepts, write-gives}
+use Rattle.laws.specs.CountLaws.{file-counts}
+use Rattle.jdr.specs.Within.{Within, FileWithin}
 
 accepted-within : (file contents bodies : List ℕ) → Below 256 file → Accepted file contents bodies → Within (readResult file contents bodies .answer) (length contents) (length bodies)
 accepted-within file contents bodies b a =
@@ -26,3 +27,18 @@ read-within {file} {contents} {bodies} known r e =
     let answer-is = ap (λ (r : ReadResult). r .answer) (r .says) in
     let a = read-accepts file contents bodies b .0 (sym (ap (λ (a : Answer). a .number) answer-is) ∙ e) in
     subst (λ (a : Answer). Within a (length contents) (length bodies)) (sym answer-is) (accepted-within file contents bodies b a)
+
+-- A drawing has a row, and its file no fewer bytes than rows.
+written-within : (contents bodies file : List ℕ) → Below (2 ^ 32) bodies → Writable contents bodies file → FileWithin (writeOutput contents bodies file .answer) (length file)
+written-within contents bodies file b w =
+    let few = file-counts (w .drawing) (w .is-table .acceptable) in
+    subst (λ (o : Output). FileWithin (o .answer) (length file)) (sym (write-gives contents bodies file b w))
+    (record { some-byte = omega arith; bytes-fit = w .fits })
+
+-- The same for `write`, from the slice's rule of the bodies.
+pub write-within : {contents bodies file file' : List ℕ} {a : Answer} → ((i : ℕ) → Fits w32 (getD bodies i 0)) → Writes contents bodies file a file' → a .number ≡ 0 → FileWithin a (length file)
+write-within {contents} {bodies} {file} known w e =
+    let b = known-below w32 bodies known in
+    let answer-is = ap (λ (o : Output). o .answer) (w .says) in
+    let h = write-accepts contents bodies file b .0 (sym (ap (λ (a : Answer). a .number) answer-is) ∙ e) in
+    subst (λ (a : Answer). FileWithin a (length file)) (sym answer-is) (written-within contents bodies file b h)

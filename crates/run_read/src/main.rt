@@ -1,6 +1,6 @@
 // Reads each file of data/ with the rooms that second/README.md names under make-read, and prints the answers with hashes
 // of the lent memory. What it prints is held to the lines of `second`.
-ghost use Prim.Native.Nat.{_≤_, _<_};
+ghost use Prim.Native.Nat.{_≤_};
 ghost use mathlib.Core.Path.{_≡_};
 ghost use lib.ListN.{length};
 ghost use Rattle.jdr.specs.Within.{Within};
@@ -9,7 +9,8 @@ use drawing::Answer;
 use text_out::Buffer;
 use text_out::put;
 use text_out::put_all;
-use text_out::put_next;
+use text_out::put_answer;
+use text_out::put_hash;
 
 // What the lent memory holds before a call.
 const FILL: u32 = 0xA5A5A5A5;
@@ -33,7 +34,7 @@ fn put_cases(buffer: &mut Buffer) -> usize
     let mut used = 0;
     let mut place = 0;
     while place < 10000 {
-        let name = name_of(place);
+        let name = text_out::name_of(place);
         let fd = os::open_read(&name);
         if fd < 0 {
             return used;
@@ -145,60 +146,17 @@ fn put_call(
 {
     let answer = jdr::read(file, contents, bodies);
     let used = put_answer(buffer, used, answer);
-    let used = put_hash(buffer, used, contents);
-    let used = put_hash(buffer, used, bodies);
+    let used = put_hash(buffer, used, hash(contents));
+    let used = put_hash(buffer, used, hash(bodies));
     Group { answer, used }
 }
 
-fn put_answer(buffer: &mut Buffer, used: usize, answer: Answer) -> usize
-    requires { ⌜ InBuffer used ⌝ }
-    ensures { λ r. ⌜ InBuffer r ⌝ }
-{
-    let used = put_next(buffer, used, answer.number);
-    let used = put_next(buffer, used, answer.offset);
-    let used = put_next(buffer, used, answer.rows);
-    put_next(buffer, used, answer.words)
-}
-
-fn put_hash(buffer: &mut Buffer, used: usize, words: &[u32]) -> usize
-    requires { ⌜ InBuffer used ⌝ }
-    ensures { λ r. ⌜ InBuffer r ⌝ }
-{
-    let used = put(buffer, used, b' ');
-    text_out::put_hex(buffer, used, hash(words))
-}
-
 fn hash(words: &[u32]) -> u64 {
-    let mut sum: u64 = 2166136261;
+    let mut sum = text_out::NO_HASH;
     let mut i = 0;
     while i < words.len() {
-        sum = hash_step(sum, words[i]);
+        sum = text_out::hash_step(sum, words[i]);
         i += 1;
     }
     sum
-}
-
-fn hash_step(sum: u64, word: u32) -> u64
-    requires { ⌜ sum < 4294967296 ⌝ }
-    ensures { λ r. ⌜ r < 4294967296 ⌝ }
-{
-    (sum * 16777619 + word as u64) % 4294967296
-}
-
-// Four decimal digits.
-fn name_of(place: u32) -> [u8; 4]
-    requires { ⌜ place < 10000 ⌝ }
-{
-    [
-        digit(place / 1000),
-        digit(place / 100 % 10),
-        digit(place / 10 % 10),
-        digit(place % 10),
-    ]
-}
-
-fn digit(value: u32) -> u8
-    requires { ⌜ value < 10 ⌝ }
-{
-    b'0' + value as u8
 }
