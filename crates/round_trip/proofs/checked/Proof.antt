@@ -1,3 +1,4 @@
+-- `round_trip::checked` meets its contract.
 use Rattle.round_trip.specs.RoundTripLaws.{table-checked}
 use Rattle.format.specs.LeafLaws.{known-below}
 use mir.Syntax.{w32}

@@ -1,3 +1,4 @@
+-- `round_trip::read_then_write` meets its contract.
 use lib.Seq.{length-take-le}
 use Prim.Native.Nat.{_*_}
 use mathlib.Core.Path.{sym}

@@ -1,3 +1,4 @@
+-- `round_trip::write_then_read` meets its contract.
 use lib.Seq.{length-take-le}
 use mathlib.Core.Path.{sym}
 use Rattle.round_trip.specs.RoundTripLaws.{table-refused, length-fits, table-back}

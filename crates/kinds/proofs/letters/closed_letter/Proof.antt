@@ -1,3 +1,4 @@
+-- `kinds::letters::closed_letter` meets its contract.
 use Rattle.fields.specs.Letters.{closedLetter}
 use native.Mathlib.Omega.{arith}
 use mathlib.Core.Path.{refl, ap, _∙_}

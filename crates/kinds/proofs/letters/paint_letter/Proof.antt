@@ -1,3 +1,4 @@
+-- `kinds::letters::paint_letter` meets its contract.
 use Rattle.fields.specs.Letters.{paintLetter}
 use native.Mathlib.Omega.{arith}
 use mathlib.Core.Path.{refl, ap, _∙_}

@@ -1,3 +1,4 @@
+-- `kinds::letters::plain_letter` meets its contract.
 use Rattle.fields.specs.Letters.{plainLetter}
 use native.Mathlib.Omega.{arith}
 use mathlib.Core.Path.{refl, ap, _∙_}

@@ -1,3 +1,4 @@
+-- `kinds::letters::segment_letter` meets its contract.
 use Rattle.fields.specs.Letters.{segmentLetter}
 use native.Mathlib.Omega.{arith}
 use mathlib.Core.Path.{refl, ap, _∙_}

@@ -1,3 +1,4 @@
+-- `kinds::numbers::byte` meets its contract.
 use Rattle.kinds.specs.RangeLaws.{byte-ranged}
 use native.Mathlib.Omega.{arith}
 use mathlib.Core.Path.{refl, ap, _∙_}

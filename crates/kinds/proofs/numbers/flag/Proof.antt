@@ -1,3 +1,4 @@
+-- `kinds::numbers::flag` meets its contract.
 use Rattle.kinds.specs.RangeLaws.{flag-ranged}
 use native.Mathlib.Omega.{arith}
 use mathlib.Core.Path.{refl, ap, _∙_}

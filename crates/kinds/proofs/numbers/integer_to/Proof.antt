@@ -1,3 +1,4 @@
+-- `kinds::numbers::integer_to` meets its contract.
 use Rattle.kinds.specs.RangeLaws.{integer-ranged}
 use native.Mathlib.Omega.{arith}
 use mathlib.Core.Path.{refl, ap, _∙_}

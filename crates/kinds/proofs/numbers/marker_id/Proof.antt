@@ -1,3 +1,4 @@
+-- `kinds::numbers::marker_id` meets its contract.
 use native.Mathlib.Omega.{arith}
 use mathlib.Core.Path.{refl, ap, _∙_}
 use Rattle.format.specs.Kind as K

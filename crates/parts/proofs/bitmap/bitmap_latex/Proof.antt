@@ -1,3 +1,4 @@
+-- `parts::bitmap::bitmap_latex` meets its contract.
 use Rattle.passes.specs.LayoutLaws.{laid, both, cased, else, then, told, nothing-laid}
 use borrow.Author.Tests.{eq-eqb, ne-eqb}
 use borrow.Author.Needs.{needs}

@@ -1,3 +1,4 @@
+-- `parts::line_style::dashes` meets its contract.
 use Rattle.drawing.specs.Fields as FL
 use lib.ListN.{length}
 use lib.Dec.{ltb}

@@ -1,3 +1,4 @@
+-- `parts::line_style::join` meets its contract.
 use Rattle.passes.specs.LayoutLaws.{laid, else, then, told, field-laid, nothing-laid}
 use borrow.Author.Tests.{eq-eqb, ne-eqb}
 use borrow.Author.Needs.{needs}

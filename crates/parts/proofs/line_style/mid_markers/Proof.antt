@@ -1,3 +1,4 @@
+-- `parts::line_style::mid_markers` meets its contract.
 use Rattle.passes.specs.LayoutLaws.{laid, else, then, nothing-laid}
 use native.Mathlib.Omega.{arith}
 use borrow.Author.Tests.{le-leb, lt-leb}

@@ -1,3 +1,4 @@
+-- `parts::marker::last_marker` meets its contract.
 use borrow.Author.Tests.{le-leb, lt-leb}
 use Rattle.parts.proofs.marker.last_marker.Statement.{statement}
 use Rattle.parts.proofs.marker.last_marker.Tie as tie

@@ -1,3 +1,4 @@
+-- `parts::marker::markers` meets its contract.
 use Prim.Native.Nat.{_-_}
 use Rattle.format.specs.Pass.{_⟫_}
 use lib.ListN.{length}

@@ -1,3 +1,4 @@
+-- `parts::marker::overlay` meets its contract.
 use Rattle.passes.specs.LayoutLaws.{laid, both, else, then, told, nothing-laid}
 use mathlib.Core.Bool.{_&&_}
 use lib.Dec.{eqb}

@@ -1,3 +1,4 @@
+-- `parts::object::leaf_body` meets its contract.
 use Rattle.passes.specs.LayoutLaws.{laid, both}
 use mathlib.Core.Path.{_∙_}
 use Rattle.passes.specs.Carries.{Laid}

@@ -1,3 +1,4 @@
+-- `parts::object::leaf_parts` meets its contract.
 use Rattle.passes.specs.LayoutLaws.{laid, cased, else, then}
 use borrow.Author.Tests.{eq-eqb, ne-eqb}
 use Rattle.passes.specs.Carries.{Laid}

@@ -1,3 +1,4 @@
+-- `parts::object::object_end` meets its contract.
 use Rattle.passes.specs.LayoutLaws.{laid, else, then, told, nothing-laid}
 use borrow.Author.Tests.{le-leb, lt-leb}
 use borrow.Author.Needs.{needs}

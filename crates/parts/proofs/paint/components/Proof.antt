@@ -1,3 +1,4 @@
+-- `parts::paint::components` meets its contract.
 use Rattle.drawing.specs.Fields as FL
 use Rattle.format.specs.Pass.{_⟫_}
 use lib.ListN.{length}

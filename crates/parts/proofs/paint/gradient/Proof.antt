@@ -1,3 +1,4 @@
+-- `parts::paint::gradient` meets its contract.
 use Rattle.passes.specs.LayoutLaws.{laid, both, field-laid}
 use mathlib.Core.Path.{_∙_}
 use borrow.Author.Needs.{needs}

@@ -1,3 +1,4 @@
+-- `parts::paint::paint_parts` meets its contract.
 use borrow.Author.Tests.{eq-eqb, ne-eqb, le-leb, lt-leb}
 use Rattle.parts.specs.PaintLaws.{gradients-first}
 use Rattle.passes.specs.CarryLaws.{same-carried}

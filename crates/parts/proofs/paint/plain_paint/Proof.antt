@@ -1,3 +1,4 @@
+-- `parts::paint::plain_paint` meets its contract.
 use Rattle.passes.specs.LayoutLaws.{laid, told}
 use Rattle.passes.specs.Carries.{Laid}
 use borrow.Author.Needs.{needs}

@@ -1,3 +1,4 @@
+-- `parts::paint::plain_parts` meets its contract.
 use Rattle.passes.specs.LayoutLaws.{laid, else, then}
 use borrow.Author.Tests.{eq-eqb, ne-eqb, le-leb, lt-leb}
 use Rattle.passes.specs.CarryLaws.{none-carried}

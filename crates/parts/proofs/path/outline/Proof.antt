@@ -1,3 +1,4 @@
+-- `parts::path::outline` meets its contract.
 use Rattle.passes.specs.LayoutLaws.{laid, both, else, then, told, nothing-laid}
 use mathlib.Core.Option.{none}
 use borrow.Author.Tests.{lt-ltb, le-ltb, le-leb, lt-leb}

@@ -1,3 +1,4 @@
+-- `parts::path::path` meets its contract.
 use Rattle.passes.specs.LayoutLaws.{laid, both, cased, field-laid}
 use mathlib.Core.Path.{_∙_}
 use borrow.Author.Needs.{needs}

@@ -1,3 +1,4 @@
+-- `parts::segment::control_points` meets its contract.
 use Rattle.passes.specs.LayoutLaws.{laid, else, then, nothing-laid}
 use borrow.Author.Tests.{eq-eqb, ne-eqb}
 use Rattle.passes.specs.RunCarryLaws.{doubles-laid}

@@ -1,3 +1,4 @@
+-- `parts::segment::joined_segment` meets its contract.
 use mathlib.Core.Path.{_∙_}
 use Rattle.parts.specs.SegmentLaws.{segment-ends}
 use Rattle.parts.specs.Segments.{before}

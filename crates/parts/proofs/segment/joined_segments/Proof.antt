@@ -1,3 +1,4 @@
+-- `parts::segment::joined_segments` meets its contract.
 use Rattle.format.specs.Pass.{_⟫_}
 use lib.ListN.{length}
 use mathlib.Core.Option.{none, some}

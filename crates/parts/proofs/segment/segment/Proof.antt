@@ -1,3 +1,4 @@
+-- `parts::segment::segment` meets its contract.
 use Rattle.passes.specs.LayoutLaws.{laid, else, then, told}
 use borrow.Author.Tests.{eq-eqb, ne-eqb}
 use Rattle.passes.specs.RunCarryLaws.{doubles-laid}

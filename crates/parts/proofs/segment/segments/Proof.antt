@@ -1,3 +1,4 @@
+-- `parts::segment::segments` meets its contract.
 use Rattle.format.specs.Pass.{_⟫_}
 use lib.ListN.{length}
 use mathlib.Core.Option.{none}

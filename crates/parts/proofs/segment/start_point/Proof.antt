@@ -1,3 +1,4 @@
+-- `parts::segment::start_point` meets its contract.
 use Rattle.passes.specs.LayoutLaws.{laid, both, cased, field-laid}
 use Rattle.parts.specs.SegmentLaws.{free-start, joined-start}
 use Rattle.passes.specs.RunCarryLaws.{doubles-laid}

@@ -1,3 +1,4 @@
+-- `parts::settings::last_paper` meets its contract.
 use native.Mathlib.Omega.{arith}
 use borrow.Author.Tests.{le-leb, lt-leb}
 use Rattle.parts.proofs.settings.last_paper.Statement.{statement}

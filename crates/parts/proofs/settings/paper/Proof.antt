@@ -1,3 +1,4 @@
+-- `parts::settings::paper` meets its contract.
 use Rattle.passes.specs.LayoutLaws.{laid, cased, else, then, told, nothing-laid}
 use mathlib.Core.Path.{sym}
 use borrow.Author.Tests.{eq-eqb, ne-eqb}

@@ -1,3 +1,4 @@
+-- `parts::settings::portrait` meets its contract.
 use Rattle.passes.specs.LayoutLaws.{laid, else, then, field-laid, nothing-laid}
 use borrow.Author.Tests.{lt-ltb, le-ltb}
 use borrow.Author.Needs.{needs}

@@ -1,3 +1,4 @@
+-- `parts::settings::settings` meets its contract.
 use Rattle.passes.specs.LayoutLaws.{laid, else, then}
 use borrow.Author.Tests.{le-leb, lt-leb}
 use Rattle.passes.specs.Carries.{Laid}

@@ -1,3 +1,4 @@
+-- `parts::settings::settings_from_byte` meets its contract.
 use Rattle.passes.specs.LayoutLaws.{laid, cased, else, then, told}
 use borrow.Author.Tests.{eq-eqb, ne-eqb}
 use Rattle.passes.specs.CarryLaws.{none-carried}

@@ -1,3 +1,4 @@
+-- `parts::text::latex_if` meets its contract.
 use Rattle.passes.specs.LayoutLaws.{laid, cased, else, then, told, nothing-laid}
 use borrow.Author.Tests.{eq-eqb, ne-eqb}
 use borrow.Author.Needs.{needs}

@@ -1,3 +1,4 @@
+-- `parts::text::text` meets its contract.
 use Rattle.passes.specs.LayoutLaws.{laid, both, cased}
 use mathlib.Core.Path.{_∙_}
 use Rattle.passes.specs.Carries.{Laid}

@@ -1,3 +1,4 @@
+-- `parts::transformation::put_transformation` meets its contract.
 use Rattle.parts.specs.Doubles.{putDoubles, one-put, all-put}
 use Rattle.passes.specs.TakeLaws.{width-bounds}
 use Rattle.passes.specs.Routes.{baseOf, widthOf, target}

@@ -1,3 +1,4 @@
+-- `parts::transformation::transformation` meets its contract.
 use Rattle.parts.specs.Doubles.{putDoubles, run-of-doubles}
 use Rattle.passes.specs.RunTakeLaws.{runs-there, runs-put, runs-refused}
 use Rattle.passes.specs.RunCarryLaws.{doubles-laid}

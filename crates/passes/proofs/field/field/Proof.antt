@@ -1,3 +1,4 @@
+-- `passes::field::field` meets its contract.
 use Rattle.passes.specs.TakeLaws.{width-bounds, takes-gone, takes-cut, takes-outside, takes-value}
 use native.Mathlib.Omega.{arith}
 use lib.ListN.{length}

@@ -1,3 +1,4 @@
+-- `passes::field::judged` meets its contract.
 use Rattle.passes.specs.TakeLaws.{judged-gone, judged-fault}
 use borrow.Author.Needs.{needs}
 use Rattle.passes.proofs.field.judged.Statement.{statement}

@@ -1,3 +1,4 @@
+-- `passes::field::refusal` meets its contract.
 use Rattle.passes.proofs.field.refusal.Statement.{statement}
 use Rattle.passes.proofs.field.refusal.Tie as tie
 use Rattle.passes.proofs.field.refusal.Reads as reads

@@ -1,3 +1,4 @@
+-- `passes::runs::all_chars` meets its contract.
 use lib.ListN.{getD}
 use native.Mathlib.Omega.{arith}
 use borrow.Author.Needs.{needs}

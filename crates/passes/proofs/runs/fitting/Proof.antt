@@ -1,3 +1,4 @@
+-- `passes::runs::fitting` meets its contract.
 use Rattle.passes.specs.FitLaws.{fitting-all, fitting-some}
 use borrow.Author.Needs.{needs}
 use Rattle.passes.proofs.runs.fitting.Statement.{statement}

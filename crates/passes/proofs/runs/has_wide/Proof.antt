@@ -1,3 +1,4 @@
+-- `passes::runs::has_wide` meets its contract.
 use native.Mathlib.Omega.{arith}
 use mathlib.Core.Bool.{true≢false, false≢true}
 use mathlib.Core.Path.{refl, sym, _∙_}

@@ -1,3 +1,4 @@
+-- `passes::runs::run` meets its contract.
 use lib.ListN.{length, getD}
 use native.Mathlib.Omega.{arith}
 use mathlib.Core.List.{List}

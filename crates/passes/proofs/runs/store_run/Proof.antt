@@ -1,3 +1,4 @@
+-- `passes::runs::store_run` meets its contract.
 use mir.Syntax.{w8}
 use lib.ListN.{length}
 use native.Mathlib.Omega.{arith}

@@ -1,3 +1,4 @@
+-- `passes::runs::write_run` meets its contract.
 use mir.Syntax.{w32}
 use lib.ListN.{length}
 use native.Mathlib.Omega.{arith}

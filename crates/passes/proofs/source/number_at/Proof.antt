@@ -1,3 +1,4 @@
+-- `passes::source::number_at` meets its contract.
 use mir.Syntax.{w8, w32}
 use lib.ListN.{length}
 use Prim.Native.Nat.{_+_, _/_, _^_, _≤_}

@@ -1,3 +1,4 @@
+-- `passes::source::units` meets its contract.
 use Rattle.passes.proofs.source.units.Statement.{statement}
 use Rattle.passes.proofs.source.units.Tie as tie
 use Rattle.passes.proofs.source.units.Reads as reads

@@ -1,3 +1,4 @@
+-- `passes::source::width` meets its contract.
 use borrow.Author.Needs.{needs}
 use Rattle.passes.proofs.source.width.Statement.{statement}
 use Rattle.passes.proofs.source.width.Tie as tie

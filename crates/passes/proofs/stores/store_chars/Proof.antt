@@ -1,3 +1,4 @@
+-- `passes::stores::store_chars` meets its contract.
 use borrow.Author.Needs.{needs}
 use native.Mathlib.Omega.{arith}
 use mathlib.Core.Path.{ap, _∙_}

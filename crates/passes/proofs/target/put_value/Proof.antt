@@ -1,3 +1,4 @@
+-- `passes::target::put_value` meets its contract.
 use borrow.Author.Needs.{needs}
 use Rattle.passes.proofs.target.put_value.Statement.{statement}
 use Rattle.passes.proofs.target.put_value.Tie as tie

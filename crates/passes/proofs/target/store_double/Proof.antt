@@ -1,3 +1,4 @@
+-- `passes::target::store_double` meets its contract.
 use Prim.Native.Nat.{_^_}
 use native.Mathlib.Omega.{arith}
 use Rattle.passes.specs.TargetLaws.{put-halves, put-nowhere}

@@ -1,3 +1,4 @@
+-- `passes::target::store_value` meets its contract.
 use Prim.Native.Nat.{_^_}
 use native.Mathlib.Omega.{arith}
 use mathlib.Core.Path.{ap, _∙_}

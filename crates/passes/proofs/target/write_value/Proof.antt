@@ -1,3 +1,4 @@
+-- `passes::target::write_value` meets its contract.
 use mathlib.Core.Path.{_≡_}
 use native.Mathlib.Omega.{arith}
 use Rattle.passes.specs.TargetLaws.{field-size, put-nowhere, put-here, field-eight}

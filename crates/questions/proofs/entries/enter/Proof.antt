@@ -1,3 +1,4 @@
+-- `questions::entries::enter` meets its contract.
 use Rattle.questions.specs.EntryLaws.{entered, not-entered}
 use borrow.Author.Needs.{needs}
 use Rattle.questions.proofs.entries.enter.Statement.{statement}

@@ -1,3 +1,4 @@
+-- `questions::entries::entries` meets its contract.
 use Rattle.questions.specs.EntryLaws.{gather-none, gather-one, gather-all, row-here, rows-small}
 use Rattle.questions.specs.Entries.{Listing}
 use native.Mathlib.Omega.{arith}

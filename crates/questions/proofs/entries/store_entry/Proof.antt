@@ -1,3 +1,4 @@
+-- `questions::entries::store_entry` meets its contract.
 use Rattle.questions.specs.EntryLaws.{entry-put, entry-nowhere}
 use native.Mathlib.Omega.{arith}
 use borrow.Author.Needs.{needs}

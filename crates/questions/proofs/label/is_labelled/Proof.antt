@@ -1,3 +1,4 @@
+-- `questions::label::is_labelled` meets its contract.
 use Rattle.questions.specs.LabelLaws.{some-end, label-early, two-words, too-long, other-number, other-chars, told-by-end}
 use native.Mathlib.Omega.{arith}
 use lib.ListN.{length, getD}

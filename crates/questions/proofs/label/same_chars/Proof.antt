@@ -1,3 +1,4 @@
+-- `questions::label::same_chars` meets its contract.
 use Rattle.questions.specs.CharLaws.{left, all-chars, one-char, no-char}
 use Rattle.drawing.specs.String.{equal}
 use borrow.Author.Tests.{eq-eqb, ne-eqb}

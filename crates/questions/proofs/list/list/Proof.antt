@@ -1,3 +1,4 @@
+-- `questions::list::list` meets its contract.
 use Rattle.questions.specs.ListLaws.{list-refused, some-word, table-here, count-small, list-short, list-stored}
 use Rattle.format.specs.LeafLaws.{known-below}
 use native.Mathlib.Omega.{arith}

@@ -1,3 +1,4 @@
+-- `questions::rows::end_of` meets its contract.
 use Rattle.questions.specs.EndLaws.{group-end, leaf-end}
 use Rattle.format.specs.LeafLaws.{known-below}
 use mir.Syntax.{w32}

@@ -1,3 +1,4 @@
+-- `table::answers::check` meets its contract.
 use Rattle.table.specs.AnswerLaws.{long-refused, walk-refused, walk-small, walk-checked}
 use Rattle.format.specs.LeafLaws.{known-below}
 use native.Mathlib.Omega.{arith}

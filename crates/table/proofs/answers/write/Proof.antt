@@ -1,3 +1,4 @@
+-- `table::answers::write` meets its contract.
 use Rattle.table.specs.AnswerLaws.{write-refused, write-short, within-limits, write-whole}
 use Rattle.format.specs.LeafLaws.{known-below}
 use native.Mathlib.Omega.{arith}

@@ -1,3 +1,4 @@
+-- `table::file::put_head` meets its contract.
 use Rattle.table.specs.FileWalkLaws.{six-jdr, six-version}
 use Rattle.table.specs.WriteLaws.{put-written, both-written, same-written}
 use Rattle.format.specs.Digits.{digits}

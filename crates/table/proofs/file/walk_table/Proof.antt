@@ -1,3 +1,4 @@
+-- `table::file::walk_table` meets its contract.
 use Rattle.table.specs.FileWalkLaws.{table-lost, version-unfound, version-small, settings-unfound, outer-stands, outer-short, outer-lost, rows-left, words-left, file-long, table-walks}
 use Rattle.table.specs.MemberWalkLaws.{walked-over}
 use Rattle.table.specs.BodyLaws.{body-found, body-unfound, field-found}

@@ -1,3 +1,4 @@
+-- `table::objects::leaf` meets its contract.
 use Rattle.table.specs.LeafWalkLaws.{same-letter, walks-lost, leaf-other, leaf-unfound, leaf-wrong-row, leaf-right}
 use Rattle.format.specs.Digits.{digits}
 use Rattle.format.specs.Pass.{put}

@@ -1,3 +1,4 @@
+-- `table::objects::own_body` meets its contract.
 use Rattle.table.specs.OwnWalkLaws.{count-unfound, end-unfound, end-forward, wrong-row, wrong-count, own-right}
 use Rattle.table.specs.LeafWalkLaws.{walks-lost}
 use Rattle.table.specs.BodyLaws.{body-found, body-unfound, field-found}

@@ -1,3 +1,4 @@
+-- `table::rows::is_row` meets its contract.
 use Rattle.table.specs.RowLaws.{row-equal}
 use borrow.Author.Tests.{eq-eqb, ne-eqb}
 use native.Mathlib.Omega.{arith}

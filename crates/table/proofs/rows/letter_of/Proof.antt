@@ -1,3 +1,4 @@
+-- `table::rows::letter_of` meets its contract.
 use borrow.Author.Tests.{eq-eqb, ne-eqb}
 use native.Mathlib.Omega.{arith}
 use mathlib.Core.Path.{refl}

@@ -1,3 +1,4 @@
+-- `table::rows::word_from` meets its contract.
 use Rattle.table.specs.RowLaws.{word-behind}
 use native.Mathlib.Omega.{arith}
 use borrow.Author.Needs.{needs}

@@ -1,3 +1,4 @@
+-- `table::rows::word_or_zero` meets its contract.
 use Rattle.table.specs.RowLaws.{past-end}
 use native.Mathlib.Omega.{arith}
 use borrow.Author.Needs.{needs}
