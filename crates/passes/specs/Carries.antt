@@ -5,7 +5,7 @@ use Prim.Native.Nat.{ℕ}
 use mathlib.Core.List.{List}
 use lib.ListN.{length}
 use Rattle.format.specs.Kind.{Kind}
-use Rattle.format.specs.Script.{Script, ask}
+use Rattle.format.specs.Script.{Script}
 use Rattle.format.specs.Format.{Format, one, script}
 use Rattle.format.specs.Layout.{Layout}
 use Rattle.passes.specs.declared.Pass.{Pass}

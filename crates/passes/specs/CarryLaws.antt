@@ -1,17 +1,15 @@
 -- The laws of passes over layouts: a field, one part behind another, and a part that is there or not.
-use mathlib.Core.Path.{_≡_, refl, sym, ap, _∙_}
+use mathlib.Core.Path.{_≡_, refl, ap, _∙_}
 use mathlib.Core.Logic.{_⊎_, inl, inr}
-use mathlib.Core.Bool.{Bool, true, false, cond, false≢true, true≢false}
-use mathlib.Core.Option.{Option, some}
-use Prim.Native.Nat.{ℕ, zero, suc, _+_, _^_, _<_, _≤_}
+use mathlib.Core.Bool.{Bool}
+use Prim.Native.Nat.{ℕ, zero, suc, _^_, _<_, _≤_}
 use native.Mathlib.Omega.{arith}
-use mathlib.Core.List.{List, []}
+use mathlib.Core.List.{List}
 use lib.ListN.{length}
-use lib.Dec.{ltb}
 use borrow.Author.Tests.{le-ltb}
-use Rattle.format.specs.Kind.{Shape, Kind, Allowed, size, values}
+use Rattle.format.specs.Kind.{Shape, Kind, size, values}
 use Rattle.format.specs.Script.{Script, ask}
-use Rattle.format.specs.Format.{Format, known, one, pair, lead, pick, via, script}
+use Rattle.format.specs.Format.{one}
 use Rattle.passes.specs.declared.Pass.{Pass}
 use Rattle.passes.specs.declared.Took.{Took}
 use Rattle.passes.specs.Passes.{behind, Ready, refusalOf, judgedBy, judgedOf}
@@ -19,7 +17,7 @@ use Rattle.passes.specs.TakeLaws.{refusal-ready}
 use Rattle.passes.specs.Takes.{Takes}
 use Rattle.passes.specs.Ranged.{Ranged}
 use Rattle.passes.specs.FieldLaws.{takes-runs, judged-runs}
-use Rattle.passes.specs.Carries.{Asked, Carried, Laid}
+use Rattle.passes.specs.Carries.{Asked, Carried}
 
 pub judged-ready : (t : Bool) (n total : ℕ) (p q : Pass) {r : Pass} → Ready total p → Ready total q → r ≡ judgedOf t p q n → Ready total r
 judged-ready t n total p q {r} before after is = rw is (by (q .number) n)

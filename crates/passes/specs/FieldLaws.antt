@@ -2,23 +2,22 @@
 use mathlib.Core.Path.{_≡_, refl, sym, ap, ap₂, _∙_, subst}
 use mathlib.Core.Logic.{_⊎_, inl, inr}
 use mathlib.Core.Bool.{Bool, true, false, cond, not}
-use Prim.Native.Nat.{ℕ, zero, suc, _+_, _-_, _*_, _/_, _^_, _<_, _≤_}
+use Prim.Native.Nat.{ℕ, zero, suc, _+_, _-_, _/_, _^_, _<_}
 use native.Mathlib.Omega.{arith}
 use mathlib.Core.List.{List}
 use lib.Dec.{ltb}
-use lib.ListN.{length, drop}
+use lib.ListN.{drop}
 use borrow.Author.Tests.{lt-ltb}
 use Rattle.format.specs.Digits.{digits}
 use Rattle.format.specs.Kind.{Kind, size, values, Allowed}
-use Rattle.format.specs.Codec.{Outcome, found, refused}
+use Rattle.format.specs.Codec.{found, refused}
 use Rattle.format.specs.FixedCodec.{fixed, spellFixed}
 use Rattle.format.specs.LiteralLaws.{faultOf, read-cut, read-fault, read-value}
 use Rattle.format.specs.Script.{Script, ask}
-use Rattle.format.specs.Pass.{Route, Passed, stopped, put, onward, pass}
-use Rattle.drawing.specs.Codecs.{byteFields, wordFields}
+use Rattle.format.specs.Pass.{put, onward, pass}
 use Rattle.passes.specs.declared.Pass.{Pass}
 use Rattle.passes.specs.declared.Took.{Took}
-use Rattle.passes.specs.Routes.{route, toTable, toFile, baseOf, widthOf}
+use Rattle.passes.specs.Routes.{route, baseOf, widthOf}
 use Rattle.passes.specs.Passes.{resumed, behind, refusalOf, judgedBy, judgedOf}
 use Rattle.passes.specs.Takes.{Gone, Cut, There, Outside, Stood, Takes}
 use Rattle.passes.specs.Ranged.{Ranged}

@@ -1,11 +1,10 @@
 -- The rules of passes over layouts: one for each way in which a layout is put together.
-use mathlib.Core.Path.{_≡_, ap, _∙_}
+use mathlib.Core.Path.{_≡_, _∙_}
 use mathlib.Core.Bool.{Bool, true, false, false≢true, true≢false}
 use Prim.Native.Nat.{ℕ}
 use mathlib.Core.List.{List}
 use lib.ListN.{length}
 use Rattle.format.specs.Kind.{Kind}
-use Rattle.format.specs.Script.{Script}
 use Rattle.format.specs.Format.{Format, known, one, pair, lead, many, pick, via, script}
 use Rattle.passes.specs.declared.Pass.{Pass}
 use Rattle.passes.specs.declared.Took.{Took}

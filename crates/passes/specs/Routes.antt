@@ -1,5 +1,5 @@
 -- The two ways of a pass: from a file's bytes into a table's words, and from a table's words into a file's bytes.
-use mathlib.Core.Bool.{Bool, true, false, cond}
+use mathlib.Core.Bool.{Bool, cond}
 use Prim.Native.Nat.{ℕ, _+_, _/_, _^_}
 use mathlib.Core.List.{List}
 use Rattle.format.specs.Pass.{Route, stopped}

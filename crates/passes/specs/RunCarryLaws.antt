@@ -13,7 +13,6 @@ use Rattle.format.specs.Digits.{Below, number}
 use Rattle.format.specs.Kind.{Kind, size, values}
 use Rattle.format.specs.Kind as K
 use Rattle.format.specs.Codec.{refused}
-use Rattle.format.specs.FixedCodec.{fixed}
 use Rattle.format.specs.LeafLaws.{field-below, field-one}
 use Rattle.format.specs.LiteralLaws.{read-cut, read-value, read-fault}
 use Rattle.format.specs.Script.{Script, ask}
@@ -26,7 +25,7 @@ use Rattle.drawing.specs.String.{chars}
 use Rattle.passes.specs.declared.Pass.{Pass}
 use Rattle.passes.specs.Routes.{route, toTable, toFile, baseOf, widthOf}
 use Rattle.passes.specs.Sizes.{isRun}
-use Rattle.passes.specs.FitLaws.{each-run, run-size}
+use Rattle.passes.specs.FitLaws.{each-run}
 use Rattle.passes.specs.Passes.{behind}
 use Rattle.passes.specs.RunTakeLaws.{run-width, fit-inside}
 use Rattle.passes.specs.FieldLaws.{behind-refusal, behind-gone, behind-going, source-width, target-width}

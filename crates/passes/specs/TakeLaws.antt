@@ -1,11 +1,11 @@
 -- The laws of taking one field: each way out of it is one of those that the contract knows, and a pass behind it goes on as the script does.
-use mathlib.Core.Path.{_≡_, refl, sym, ap, _∙_, subst}
+use mathlib.Core.Path.{_≡_, refl, sym, ap, _∙_}
 use mathlib.Core.Logic.{_⊎_, inl, inr}
-use mathlib.Core.Bool.{Bool, true, false, cond, not}
-use Prim.Native.Nat.{ℕ, zero, suc, _+_, _-_, _*_, _/_, _^_, _<_, _≤_}
+use mathlib.Core.Bool.{Bool, true, false, not}
+use Prim.Native.Nat.{ℕ, zero, suc, _+_, _-_, _<_, _≤_}
 use native.Mathlib.Omega.{arith}
 use mathlib.Core.List.{List}
-use lib.ListN.{length, take, drop}
+use lib.ListN.{length}
 use Rattle.format.specs.Digits.{number, digits}
 use Rattle.format.specs.Pass.{put}
 use Rattle.format.specs.PassLaws.{length-put}
@@ -14,7 +14,7 @@ use Rattle.passes.specs.Routes.{baseOf, widthOf}
 use Rattle.passes.specs.Sizes.{isField}
 use Rattle.passes.specs.TargetLaws.{field-size}
 use Rattle.passes.specs.Passes.{Ready, refusalOf, judgedBy, judgedOf}
-use Rattle.passes.specs.Takes.{Gone, Cut, There, Outside, Stood, Takes}
+use Rattle.passes.specs.Takes.{There, Takes}
 
 -- ---- widths
 

@@ -13,17 +13,15 @@ use Rattle.format.specs.FixedLayoutLaws.{parse-encoded}
 use Rattle.format.specs.Layout.{Layout, parse}
 use Rattle.drawing.specs.Codecs as Codecs
 use Rattle.drawing.specs.Codecs.{wordFields}
-use Rattle.drawing.specs.String.{String}
 use Rattle.drawing.specs.Object.{Leaf, path, text, bitmap, Object, leaf, group, listOf}
 use Rattle.drawing.specs.ObjectId.{leafLetter}
 use Rattle.drawing.specs.LeafLayout.{pathCase, otherCases, objectEnd}
 use Rattle.drawing.specs.Table.{wordsOf, leafKind, leafWords, groupWords, kindIn, startIn}
 use Rattle.drawing.specs.TableDrawing.{letterOf}
-use Rattle.drawing.specs.Order.{descriptionOf}
 use Rattle.laws.specs.CodecLaws.{words-sensible, words-literal}
 use Rattle.passes.specs.declared.Pass.{Pass}
 use Rattle.passes.specs.Landings.{Landed, Lands, lands}
-use Rattle.questions.specs.RowBodies.{ownWords, RowBody}
+use Rattle.questions.specs.RowBodies.{RowBody}
 use Rattle.questions.specs.RowBodyLaws.{leaf-words, group-own-words}
 use Rattle.questions.specs.Rows.{Passes, EndsAt}
 

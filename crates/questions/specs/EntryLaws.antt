@@ -1,12 +1,12 @@
 -- The laws of gathering entries, row by row.
-use mathlib.Core.Path.{_≡_, refl, sym, ap, ap₂, subst, _∙_}
+use mathlib.Core.Path.{_≡_, refl, sym, ap, subst, _∙_}
 use mathlib.Core.Bool.{Bool, true, false, cond, false≢true, true≢false}
-use Prim.Native.Nat.{ℕ, zero, suc, _+_, _*_, _^_, _<_, _≤_}
+use Prim.Native.Nat.{ℕ, suc, _+_, _<_, _≤_}
 use native.Mathlib.Omega.{arith}
 use mathlib.Core.List.{List, [], _∷_, _++_, append-nil, append-assoc}
-use lib.ListN.{length, take, drop, set, getD, length-append, length-drop}
+use lib.ListN.{length, take, drop, set, getD, length-append}
 use lib.Seq.{set-split}
-use Rattle.format.specs.Pass.{splice, put}
+use Rattle.format.specs.Pass.{put}
 use Rattle.format.specs.PassLaws.{put-fits, put-short}
 use Rattle.drawing.specs.Limits.{lengthLimit}
 use Rattle.drawing.specs.String.{String, equal}
@@ -18,12 +18,11 @@ use Rattle.drawing.specs.Answers.{rowsOf}
 use Rattle.laws.specs.CountLaws.{table-limits}
 use Rattle.laws.specs.OrderLaws.{contents-length}
 use Rattle.laws.specs.TableLaws.{table-unique}
-use Rattle.table.specs.Walks.{Writes}
 use Rattle.table.specs.WriteLaws.{nothing-written, put-written, both-written, same-written}
 use Rattle.questions.specs.RowBodies.{RowBody}
 use Rattle.questions.specs.RowBodyLaws.{row-body, drop-objects, no-objects}
 use Rattle.questions.specs.Rows.{HasRow, Labels}
-use Rattle.questions.specs.Entries.{TableHere, entryOf, Entered, Gathering, Gathered, Enters}
+use Rattle.questions.specs.Entries.{TableHere, entryOf, Entered, Gathering, Enters}
 
 -- ---- one entry
 

@@ -1,10 +1,10 @@
 -- Demand 3 of the listing: what was gathered is what its definition says, and what the customer asks.
 use mathlib.Core.Path.{_≡_, refl, sym, ap, ap₂, subst, _∙_}
 use mathlib.Core.Option.{Option, none, some}
-use Prim.Native.Nat.{ℕ, zero, suc, _+_, _^_, _<_, _≤_}
+use Prim.Native.Nat.{ℕ, _+_, _^_, _<_, _≤_}
 use native.Mathlib.Nat as Nat
 use native.Mathlib.Omega.{arith}
-use mathlib.Core.List.{List, [], _∷_, _++_}
+use mathlib.Core.List.{List, [], _++_}
 use lib.Dec.{leb}
 use lib.ListN.{length, take, drop, getD}
 use borrow.Author.Tests.{le-leb, lt-leb}
@@ -14,10 +14,10 @@ use Rattle.drawing.specs.Limits.{lengthLimit}
 use Rattle.drawing.specs.Fields.{unless}
 use Rattle.drawing.specs.String.{String}
 use Rattle.drawing.specs.Drawing.{Drawing, outer}
-use Rattle.drawing.specs.Table.{IsTable, contentsOf}
+use Rattle.drawing.specs.Table.{IsTable}
 use Rattle.drawing.specs.TableDrawing.{drawingOfTable}
 use Rattle.drawing.specs.Order.{objectsOf, descriptionOf, entries, groupsAround, ParentChain}
-use Rattle.drawing.specs.Answers.{answer, rowsOf, overwrite, checkFrom, Checks, Output, listed, listFrom, listOutput}
+use Rattle.drawing.specs.Answers.{answer, rowsOf, overwrite, checkFrom, Checks, listed, listFrom, listOutput}
 use Rattle.laws.specs.AnswerLaws.{take-overwrite}
 use Rattle.laws.specs.EntryLaws.{entries-are, entries-increasing, entries-length-le}
 use Rattle.laws.specs.OrderLaws.{leads}

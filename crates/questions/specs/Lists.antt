@@ -10,7 +10,7 @@ use Rattle.drawing.specs.String.{String}
 use Rattle.drawing.specs.Drawing.{Drawing, outer}
 use Rattle.drawing.specs.Table.{IsTable}
 use Rattle.drawing.specs.Order.{objectsOf, descriptionOf, entries, groupsAround, ParentChain}
-use Rattle.drawing.specs.Answers.{rowsOf, Output, listOutput}
+use Rattle.drawing.specs.Answers.{rowsOf, listOutput}
 
 -- These are the entries of a label in a drawing's table.
 pub record Listed (contents bodies : List ℕ) (label : String) (listed : List ℕ) (d : Drawing) : Type 0 where

@@ -2,21 +2,19 @@
 use mathlib.Core.Path.{_≡_, refl, sym, ap, ap₂, subst, _∙_}
 use mathlib.Core.Logic.{_⊎_}
 use mathlib.Core.Option.{Option, none, some}
-use Prim.Native.Nat.{ℕ, zero, suc, _+_, _*_, _^_, _<_, _≤_}
+use Prim.Native.Nat.{ℕ, _+_, _*_, _^_, _<_, _≤_}
 use native.Mathlib.Omega.{arith}
 use mathlib.Core.List.{List, _++_}
 use lib.Dec.{leb}
 use lib.ListN.{length, drop}
 use borrow.Author.Tests.{le-leb, lt-leb}
 use Rattle.format.specs.Digits.{Below}
-use Rattle.format.specs.Pass.{splice}
 use Rattle.drawing.specs.declared.Answer.{Answer}
 use Rattle.drawing.specs.Limits.{lengthLimit}
 use Rattle.drawing.specs.Fields.{unless}
 use Rattle.drawing.specs.Drawing.{Drawing, fileOf}
-use Rattle.drawing.specs.Table.{IsTable}
 use Rattle.drawing.specs.TableDrawing.{drawingOfTable}
-use Rattle.drawing.specs.Answers.{answer, rowsOf, wordCount, overwrite, noTable, checkFrom, checkAnswer, Checks, Output, written, writeFrom, writeOutput, Writes}
+use Rattle.drawing.specs.Answers.{answer, rowsOf, wordCount, overwrite, noTable, checkFrom, Checks, written, writeFrom, writeOutput, Writes}
 use Rattle.laws.specs.CountLaws.{file-counts, table-limits}
 use Rattle.laws.specs.TableLaws.{drawing-of-table}
 use Rattle.laws.specs.TableFileLaws.{refused-table}

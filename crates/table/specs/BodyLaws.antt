@@ -1,9 +1,9 @@
 -- A pass over a body's words, as the definition walks over the body: it is lost, or met if the row is right.
-use mathlib.Core.Path.{_≡_, refl, sym, ap, ap₂, subst, _∙_}
+use mathlib.Core.Path.{_≡_, refl, sym, ap, subst, _∙_}
 use mathlib.Core.Bool.{true}
 use Prim.Native.Nat.{ℕ, zero, suc, _+_, _-_, _*_, _^_, _≤_}
 use native.Mathlib.Omega.{arith}
-use mathlib.Core.List.{List, _++_}
+use mathlib.Core.List.{List}
 use lib.ListN.{length, drop, length-append, length-drop}
 use lib.Seq.{drop-at, drop-drop}
 use Rattle.format.specs.Digits.{Below}
@@ -17,13 +17,13 @@ use Rattle.drawing.specs.Codecs as Codecs
 use Rattle.drawing.specs.Codecs.{wordFields}
 use Rattle.drawing.specs.String.{equal}
 use Rattle.drawing.specs.Table.{wordsOf, row}
-use Rattle.drawing.specs.TableDrawing.{Walk, met, lost, provided, bodyFrom, body}
+use Rattle.drawing.specs.TableDrawing.{met, lost, provided, bodyFrom, body}
 use Rattle.laws.specs.CodecLaws.{words-sensible, words-literal}
 use Rattle.laws.specs.SizeLaws.{bytes-few}
 use Rattle.passes.specs.declared.Pass.{Pass}
 use Rattle.passes.specs.declared.Took.{Took}
 use Rattle.passes.specs.Carries.{Asked, Laid}
-use Rattle.passes.specs.Landings.{Landed, Failed, Lands, lands, Takes, takes}
+use Rattle.passes.specs.Landings.{Landed, Lands, lands, Takes, takes}
 use Rattle.passes.specs.LayoutLaws.{field-laid}
 use Rattle.laws.specs.ObjectBytes.{bytesOf}
 use Rattle.table.specs.Walks.{placeAt, Writes}

@@ -1,7 +1,7 @@
 -- The walk over a whole table: its head, its outer group, and its ends.
 use mathlib.Core.Path.{_≡_, refl, sym, ap, ap₂, subst, _∙_}
 use mathlib.Core.Bool.{Bool, true, false, cond, _&&_}
-use mathlib.Core.Option.{Option, none, some}
+use mathlib.Core.Option.{none, some}
 use Prim.Native.Nat.{ℕ, zero, suc, _+_, _-_, _*_, _^_, _<_, _≤_}
 use native.Mathlib.Omega.{arith}
 use mathlib.Core.List.{List, [], _∷_, _++_, append-assoc}
@@ -9,18 +9,17 @@ use lib.Dec.{leb}
 use lib.ListN.{length, drop, length-append, length-drop}
 use borrow.Author.Tests.{le-leb, lt-leb}
 use Rattle.format.specs.Digits.{Below, digits}
-use Rattle.format.specs.Codec.{found, refused, andThen}
+use Rattle.format.specs.Codec.{found, andThen}
 use Rattle.format.specs.Layout.{field, parse}
 use Rattle.format.specs.ParsingLaws.{parse-pair}
 use Rattle.drawing.specs.Codecs as Codecs
 use Rattle.drawing.specs.Limits.{lastMinor, lengthLimit}
 use Rattle.drawing.specs.Fields.{integerIn, jdr, versionZero}
-use Rattle.drawing.specs.String.{String, equal}
+use Rattle.drawing.specs.String.{equal}
 use Rattle.drawing.specs.Settings.{Settings, settings}
-use Rattle.drawing.specs.Object.{Objects}
 use Rattle.drawing.specs.Drawing.{Drawing, fileOf, outer}
 use Rattle.drawing.specs.Table.{headWords}
-use Rattle.drawing.specs.TableDrawing.{Place, Walk, met, lost, onward, walkGroup, walkObject, tableHead, walkOuter, ended, wholeTable, behindHead, drawingOfTable}
+use Rattle.drawing.specs.TableDrawing.{onward, walkGroup, walkObject, tableHead, walkOuter, wholeTable, behindHead, drawingOfTable}
 use Rattle.drawing.specs.Answers.{rowsOf, wordCount}
 use Rattle.laws.specs.FileGood.{minor-small}
 use Rattle.laws.specs.ObjectBytes.{bytesOf, file-bytes}
@@ -29,7 +28,7 @@ use Rattle.laws.specs.TableLaws.{drawing-of-table}
 use Rattle.passes.specs.declared.Pass.{Pass}
 use Rattle.passes.specs.declared.Took.{Took}
 use Rattle.table.specs.declared.Walked.{Walked}
-use Rattle.table.specs.Walks.{rowAt, placeAt, Stands, Writes, Met, Comes, groupBytes, WalksGroup}
+use Rattle.table.specs.Walks.{rowAt, placeAt, Stands, Writes, groupBytes, WalksGroup}
 use Rattle.table.specs.WriteLaws.{both-written, same-written}
 use Rattle.table.specs.RowLaws.{row-met, row-lost}
 use Rattle.table.specs.BodyLaws.{Found, Unfound}

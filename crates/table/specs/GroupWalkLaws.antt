@@ -1,10 +1,10 @@
 -- The walk over a group: its members, and behind them its own body, whose count tells how many they are.
 use mathlib.Core.Path.{_≡_, refl, sym, ap, ap₂, subst, _∙_}
 use mathlib.Core.Bool.{Bool, true, false}
-use Prim.Native.Nat.{ℕ, zero, suc, _+_, _-_, _*_, _^_, _<_, _≤_}
+use Prim.Native.Nat.{ℕ, zero, suc, _+_, _-_, _*_, _≤_}
 use Prim.Native.Char.{code}
 use native.Mathlib.Omega.{arith}
-use mathlib.Core.List.{List, [], _∷_, _++_}
+use mathlib.Core.List.{List, _∷_, _++_}
 use lib.Dec.{eqb}
 use lib.ListN.{length, drop, getD, length-append}
 use Rattle.format.specs.Digits.{digits}
@@ -15,7 +15,7 @@ use Rattle.drawing.specs.String.{String}
 use Rattle.drawing.specs.Object.{Object, Objects, ofList, listOf}
 use Rattle.drawing.specs.ObjectLaws.{list-of-list}
 use Rattle.drawing.specs.LeafLayout.{objectEnd}
-use Rattle.drawing.specs.ObjectLayout.{object, groupBody}
+use Rattle.drawing.specs.ObjectLayout.{object}
 use Rattle.drawing.specs.Table.{groupKind, groupOwn}
 use Rattle.drawing.specs.TableDrawing.{Place, Walk, met, lost, onward, provided, body, walkMany, walkGroup, walkObject}
 use Rattle.laws.specs.ObjectBytes.{bytesOf, group-body-bytes}

@@ -24,7 +24,7 @@ use Rattle.laws.specs.WalkSound.{kind-letter}
 use Rattle.passes.specs.declared.Pass.{Pass}
 use Rattle.passes.specs.Carries.{Laid}
 use Rattle.table.specs.declared.Walked.{Walked}
-use Rattle.table.specs.Walks.{rowAt, placeAt, Stands, Writes, Met, Comes, Walks}
+use Rattle.table.specs.Walks.{rowAt, placeAt, Stands, Met, Comes, Walks}
 use Rattle.table.specs.BodyLaws.{Found, Unfound, walk-body, lose-body}
 use Rattle.table.specs.RowLaws.{kind-of-row}
 use Rattle.table.specs.WriteLaws.{put-written, both-written, same-written}

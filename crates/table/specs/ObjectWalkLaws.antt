@@ -1,6 +1,5 @@
 -- The walk over an object: its row tells whether it is a leaf or a group.
-use mathlib.Core.Path.{_≡_, refl, sym, ap, subst, _∙_}
-use mathlib.Core.Bool.{true, false}
+use mathlib.Core.Path.{_≡_, sym, ap, subst, _∙_}
 use Prim.Native.Nat.{ℕ, zero, suc, _+_, _-_, _*_, _<_, _≤_}
 use Prim.Native.Char.{code}
 use native.Mathlib.Omega.{arith}
@@ -10,14 +9,14 @@ use lib.ListN.{length, getD}
 use borrow.Author.Tests.{eq-eqb, ne-eqb}
 use Rattle.format.specs.Digits.{digits}
 use Rattle.drawing.specs.String.{String}
-use Rattle.drawing.specs.Object.{Object, Objects, group, listOf}
+use Rattle.drawing.specs.Object.{Objects, group}
 use Rattle.drawing.specs.ObjectLayout.{object}
 use Rattle.drawing.specs.Table.{groupKind, kindIn}
-use Rattle.drawing.specs.TableDrawing.{Place, Walk, met, lost, onward, walkGroup, walkLeaf, walkKind, walkObject}
+use Rattle.drawing.specs.TableDrawing.{Walk, met, lost, onward, walkGroup, walkLeaf, walkKind, walkObject}
 use Rattle.laws.specs.ObjectBytes.{bytesOf, group-bytes, group-body-bytes}
 use Rattle.passes.specs.declared.Pass.{Pass}
 use Rattle.table.specs.declared.Walked.{Walked}
-use Rattle.table.specs.Walks.{rowAt, placeAt, Met, Comes, Walks, groupBytes}
+use Rattle.table.specs.Walks.{rowAt, placeAt, Comes, Walks, groupBytes}
 use Rattle.table.specs.WriteLaws.{same-written}
 use Rattle.table.specs.RowLaws.{row-met, row-lost, kind-of-row}
 

@@ -1,13 +1,12 @@
 -- The laws of rows: where one stands, its words, and the comparison with the row that it has to be.
 use mathlib.Core.Path.{_≡_, refl, sym, ap, ap₂, _∙_}
-use mathlib.Core.Bool.{Bool, true, false, _&&_}
+use mathlib.Core.Bool.{true, _&&_}
 use Prim.Native.Nat.{ℕ, zero, suc, _+_, _-_, _*_, _<_, _≤_}
 use native.Mathlib.Omega.{arith}
-use mathlib.Core.List.{List, [], _∷_, _++_}
+use mathlib.Core.List.{List, [], _∷_}
 use lib.Dec.{eqb}
 use lib.ListN.{length, take, drop, getD, take-append-drop, length-drop}
 use lib.Seq.{drop-cons, drop-drop, getD-drop, length-take-le}
-use borrow.Author.Tests.{ne-eqb, eq-eqb}
 use Rattle.format.specs.FixedCodec.{splitAt}
 use Rattle.format.specs.FixedCodecLaws.{splitAt-append, splitAt-short}
 use Rattle.drawing.specs.String.{equal}

@@ -1,6 +1,6 @@
 -- `kinds::floats::float` meets its contract.
 use native.Mathlib.Omega.{arith}
-use mathlib.Core.Path.{refl, ap, _∙_}
+use mathlib.Core.Path.{refl}
 use Rattle.format.specs.Kind as K
 use Rattle.passes.specs.CarryLaws.{ranged-asked, any-ranged}
 use Rattle.drawing.specs.Fields as F

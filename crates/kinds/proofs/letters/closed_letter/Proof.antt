@@ -1,7 +1,7 @@
 -- `kinds::letters::closed_letter` meets its contract.
 use Rattle.fields.specs.Letters.{closedLetter}
 use native.Mathlib.Omega.{arith}
-use mathlib.Core.Path.{refl, ap, _∙_}
+use mathlib.Core.Path.{refl}
 use Rattle.format.specs.Kind as K
 use Rattle.passes.specs.CarryLaws.{judged-asked, any-ranged}
 use Rattle.drawing.specs.Fields as F

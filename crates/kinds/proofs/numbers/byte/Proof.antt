@@ -1,7 +1,7 @@
 -- `kinds::numbers::byte` meets its contract.
 use Rattle.kinds.specs.RangeLaws.{byte-ranged}
 use native.Mathlib.Omega.{arith}
-use mathlib.Core.Path.{refl, ap, _∙_}
+use mathlib.Core.Path.{refl}
 use Rattle.format.specs.Kind as K
 use Rattle.passes.specs.CarryLaws.{ranged-asked}
 use Rattle.drawing.specs.Fields as F

@@ -1,7 +1,6 @@
 -- `kinds::numbers::flow_flag` meets its contract.
 use Rattle.kinds.specs.RangeLaws.{flag-ranged}
 use native.Mathlib.Omega.{arith}
-use mathlib.Core.Path.{refl, ap, _∙_}
 use Rattle.format.specs.Kind as K
 use Rattle.passes.specs.CarryLaws.{judged-asked}
 use Rattle.drawing.specs.Fields as F

@@ -1,7 +1,5 @@
 -- `parts::bitmap::bitmap` meets its contract.
 use Rattle.passes.specs.LayoutLaws.{laid, both, cased}
-use mathlib.Core.Path.{_∙_}
-use Rattle.passes.specs.Carries.{Laid}
 use borrow.Author.Needs.{needs}
 use Rattle.parts.proofs.bitmap.bitmap.Statement.{statement}
 use Rattle.parts.proofs.bitmap.bitmap.Tie as tie

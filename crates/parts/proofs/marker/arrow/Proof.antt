@@ -1,6 +1,5 @@
 -- `parts::marker::arrow` meets its contract.
 use Rattle.passes.specs.LayoutLaws.{laid, both, cased, field-laid}
-use mathlib.Core.Path.{_∙_}
 use borrow.Author.Needs.{needs}
 use Rattle.parts.proofs.marker.arrow.Statement.{statement}
 use Rattle.parts.proofs.marker.arrow.Tie as tie

@@ -1,7 +1,5 @@
 -- `parts::object::leaf_body` meets its contract.
 use Rattle.passes.specs.LayoutLaws.{laid, both}
-use mathlib.Core.Path.{_∙_}
-use Rattle.passes.specs.Carries.{Laid}
 use borrow.Author.Needs.{needs}
 use Rattle.parts.proofs.object.leaf_body.Statement.{statement}
 use Rattle.parts.proofs.object.leaf_body.Tie as tie

@@ -1,7 +1,6 @@
 -- `parts::object::leaf_parts` meets its contract.
 use Rattle.passes.specs.LayoutLaws.{laid, cased, else, then}
 use borrow.Author.Tests.{eq-eqb, ne-eqb}
-use Rattle.passes.specs.Carries.{Laid}
 use borrow.Author.Needs.{needs}
 use Rattle.parts.proofs.object.leaf_parts.Statement.{statement}
 use Rattle.parts.proofs.object.leaf_parts.Tie as tie

@@ -1,6 +1,5 @@
 -- `parts::paint::gradient` meets its contract.
 use Rattle.passes.specs.LayoutLaws.{laid, both, field-laid}
-use mathlib.Core.Path.{_∙_}
 use borrow.Author.Needs.{needs}
 use Rattle.parts.proofs.paint.gradient.Statement.{statement}
 use Rattle.parts.proofs.paint.gradient.Tie as tie

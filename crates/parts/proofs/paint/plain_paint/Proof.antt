@@ -1,6 +1,5 @@
 -- `parts::paint::plain_paint` meets its contract.
 use Rattle.passes.specs.LayoutLaws.{laid, told}
-use Rattle.passes.specs.Carries.{Laid}
 use borrow.Author.Needs.{needs}
 use Rattle.parts.proofs.paint.plain_paint.Statement.{statement}
 use Rattle.parts.proofs.paint.plain_paint.Tie as tie

@@ -2,7 +2,6 @@
 use Rattle.passes.specs.LayoutLaws.{laid, else, then, told}
 use borrow.Author.Tests.{eq-eqb, ne-eqb}
 use Rattle.passes.specs.RunCarryLaws.{doubles-laid}
-use Rattle.passes.specs.Carries.{Laid}
 use borrow.Author.Needs.{needs}
 use Rattle.parts.proofs.segment.segment.Statement.{statement}
 use Rattle.parts.proofs.segment.segment.Tie as tie

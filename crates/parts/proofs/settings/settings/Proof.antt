@@ -1,7 +1,6 @@
 -- `parts::settings::settings` meets its contract.
 use Rattle.passes.specs.LayoutLaws.{laid, else, then}
 use borrow.Author.Tests.{le-leb, lt-leb}
-use Rattle.passes.specs.Carries.{Laid}
 use borrow.Author.Needs.{needs}
 use Rattle.parts.proofs.settings.settings.Statement.{statement}
 use Rattle.parts.proofs.settings.settings.Tie as tie

@@ -1,7 +1,6 @@
 -- `parts::string::string` meets its contract.
 use Rattle.passes.specs.LayoutLaws.{laid, told}
 use Rattle.passes.specs.RunCarryLaws.{chars-laid}
-use Rattle.passes.specs.Carries.{Laid}
 use borrow.Author.Needs.{needs}
 use Rattle.parts.proofs.string.string.Statement.{statement}
 use Rattle.parts.proofs.string.string.Tie as tie

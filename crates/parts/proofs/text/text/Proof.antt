@@ -1,7 +1,6 @@
 -- `parts::text::text` meets its contract.
 use Rattle.passes.specs.LayoutLaws.{laid, both, cased}
 use mathlib.Core.Path.{_∙_}
-use Rattle.passes.specs.Carries.{Laid}
 use borrow.Author.Needs.{needs}
 use Rattle.parts.proofs.text.text.Statement.{statement}
 use Rattle.parts.proofs.text.text.Tie as tie

@@ -1,6 +1,4 @@
 -- `parts::transformation::transformation_at` meets its contract.
-use mathlib.Core.Path.{refl}
-use native.Mathlib.Omega.{arith}
 use Rattle.parts.specs.Doubles.{six-doubles}
 use Rattle.passes.specs.Routes.{source, baseOf}
 use borrow.Author.Needs.{needs}

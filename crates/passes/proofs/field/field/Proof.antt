@@ -2,10 +2,9 @@
 use Rattle.passes.specs.TakeLaws.{width-bounds, takes-gone, takes-cut, takes-outside, takes-value}
 use native.Mathlib.Omega.{arith}
 use lib.ListN.{length}
-use Prim.Native.Nat.{_+_, _-_, _<_, _≤_}
+use Prim.Native.Nat.{_+_, _-_, _≤_}
 use mathlib.Core.Bool.{not}
 use mathlib.Core.Logic.{inl, inr}
-use mathlib.Core.Path.{_≡_, sym, ap, subst, _∙_}
 use Rattle.passes.specs.Takes.{There}
 use Rattle.passes.specs.Routes.{widthOf, source}
 use Rattle.passes.specs.TargetLaws.{field-size, field-sized}

@@ -1,10 +1,8 @@
 -- `passes::runs::all_chars` meets its contract.
 use lib.ListN.{getD}
 use native.Mathlib.Omega.{arith}
-use borrow.Author.Needs.{needs}
 use borrow.Author.Count.{below-more}
 use mathlib.Core.Bool.{true, false, true≢false, false≢true}
-use mathlib.Core.Path.{_≡_}
 use Prim.Native.Nat.{ℕ, _+_, _-_, _<_, _≤_}
 use Rattle.passes.proofs.runs.all_chars.Statement.{statement}
 use Rattle.passes.proofs.runs.all_chars.Tie as tie

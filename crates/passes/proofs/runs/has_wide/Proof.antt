@@ -1,7 +1,7 @@
 -- `passes::runs::has_wide` meets its contract.
 use native.Mathlib.Omega.{arith}
 use mathlib.Core.Bool.{true≢false, false≢true}
-use mathlib.Core.Path.{refl, sym, _∙_}
+use mathlib.Core.Path.{sym, _∙_}
 use Rattle.passes.proofs.runs.has_wide.Statement.{statement}
 use Rattle.passes.proofs.runs.has_wide.Tie as tie
 use Rattle.passes.proofs.runs.has_wide.Reads as reads

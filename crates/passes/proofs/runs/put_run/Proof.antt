@@ -1,5 +1,4 @@
 -- `passes::runs::put_run` meets its contract.
-use native.Mathlib.Omega.{arith}
 use borrow.Author.Needs.{needs}
 use Rattle.passes.proofs.runs.put_run.Statement.{statement}
 use Rattle.passes.proofs.runs.put_run.Tie as tie

@@ -1,11 +1,8 @@
 -- `passes::runs::run` meets its contract.
-use lib.ListN.{length, getD}
+use lib.ListN.{length}
 use native.Mathlib.Omega.{arith}
-use mathlib.Core.List.{List}
-use mathlib.Core.Bool.{Bool, true, not}
-use mathlib.Core.Path.{_≡_, sym, ap, subst, _∙_}
-use Prim.Native.Nat.{ℕ, _+_, _-_, _*_, _/_, _<_, _≤_}
-use Rattle.passes.specs.Runs.{SmallWords}
+use mathlib.Core.Bool.{not}
+use Prim.Native.Nat.{_+_, _-_, _*_, _/_, _≤_}
 use Rattle.passes.specs.Routes.{source, widthOf}
 use Rattle.passes.specs.FitLaws.{run-size}
 use Rattle.passes.specs.RunTakeLaws.{run-width, fit-inside, fit-enough, few-behind, source-below, words-there, wide-there, small-there, chars-there, runs-gone, runs-short, runs-wide, runs-ran}

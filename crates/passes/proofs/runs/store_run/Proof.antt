@@ -3,7 +3,7 @@ use mir.Syntax.{w8}
 use lib.ListN.{length}
 use native.Mathlib.Omega.{arith}
 use mathlib.Core.Path.{_≡_, refl}
-use Prim.Native.Nat.{_+_, _*_, _/_, _^_, _<_, _≤_}
+use Prim.Native.Nat.{_+_, _/_, _^_}
 use Rattle.format.specs.LeafLaws.{known-below}
 use Rattle.passes.specs.Runs.{Fitting}
 use Rattle.passes.specs.FitLaws.{run-size, run-eight, run-nothing, run-room, run-stored, halves-room, halves-stored}

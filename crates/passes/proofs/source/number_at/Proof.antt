@@ -1,7 +1,6 @@
 -- `passes::source::number_at` meets its contract.
 use mir.Syntax.{w8, w32}
-use lib.ListN.{length}
-use Prim.Native.Nat.{_+_, _/_, _^_, _≤_}
+use Prim.Native.Nat.{_+_, _/_, _^_}
 use Rattle.format.specs.LeafLaws.{field-below, known-below}
 use Rattle.passes.proofs.source.number_at.Statement.{statement}
 use Rattle.passes.proofs.source.number_at.Tie as tie
