@@ -7,6 +7,7 @@ pub mod answer;
 pub mod ask;
 pub mod check;
 pub mod damage;
+pub mod direct;
 pub mod generate;
 pub mod layout;
 pub mod list;

@@ -1,7 +1,11 @@
 //! The commands.
 
 #[cfg(feature = "linked")]
+mod bench;
+#[cfg(feature = "linked")]
 mod compare;
+#[cfg(feature = "linked")]
+mod library;
 
 use second::make::{self, Case};
 use second::{lister, read, table};
@@ -15,7 +19,9 @@ second make-read DIR [SEED]              cases of the read call
 second make-table DIR [SEED]             cases of the check and write calls
 second make-list DIR [SEED]              cases of the list call and the questions
 second compare [--seconds N] [--seed S] [--out DIR] [--trace FILE]
-                                         compares the linked library (built with --features linked)";
+                                         compares the linked library (built with --features linked)
+second bench                             measures the linked library beside this program
+second bench-calls PLANS CALL WHO TIMES  the same calls over and over, for a tool that counts instructions";
 
 fn main() -> ExitCode {
     let arguments: Vec<String> = std::env::args().skip(1).collect();
@@ -26,6 +32,8 @@ fn main() -> ExitCode {
         ["make-table", folder, ref seed @ ..] => make_cases(folder, seed, make::tables::cases),
         ["make-list", folder, ref seed @ ..] => make_cases(folder, seed, make::lists::cases),
         ["compare", ref options @ ..] => compare(options),
+        ["bench"] => bench(),
+        ["bench-calls", plans, call, who, times] => bench_calls(plans, call, who, times),
         _ => Err(USAGE.to_string()),
     };
     match done {
@@ -76,7 +84,30 @@ fn compare(options: &[&str]) -> Result<ExitCode, String> {
     compare::run(compare::Options::parse(options)?)
 }
 
+#[cfg(feature = "linked")]
+fn bench() -> Result<ExitCode, String> {
+    bench::run()
+}
+
+#[cfg(feature = "linked")]
+fn bench_calls(plans: &str, call: &str, who: &str, times: &str) -> Result<ExitCode, String> {
+    bench::calls(plans, call, who, number(times)?)
+}
+
+#[cfg(not(feature = "linked"))]
+const UNLINKED: &str = "this program was built without the library: see --features linked";
+
 #[cfg(not(feature = "linked"))]
 fn compare(_options: &[&str]) -> Result<ExitCode, String> {
-    Err("this program was built without the library: see --features linked".to_string())
+    Err(UNLINKED.to_string())
+}
+
+#[cfg(not(feature = "linked"))]
+fn bench() -> Result<ExitCode, String> {
+    Err(UNLINKED.to_string())
+}
+
+#[cfg(not(feature = "linked"))]
+fn bench_calls(_plans: &str, _call: &str, _who: &str, _times: &str) -> Result<ExitCode, String> {
+    Err(UNLINKED.to_string())
 }

@@ -1,7 +1,8 @@
 // The drawing layer: what a drawing is, its file, its table, and what each call answers. Its definitions and laws are in
-// specs/; here are the types of the answers that they speak of.
+// specs/; here are the types of the answers that they speak of. Those that are `#[repr(C)]` go to programs in C as they are.
 
 // What a call gives back: 01's number, the offset, and the counts of rows and words.
+#[repr(C)]
 pub struct Answer {
     pub number: u32,
     pub offset: u32,
@@ -61,12 +62,14 @@ pub enum Which {
 }
 
 // A run of words in the bodies.
+#[repr(C)]
 pub struct Span {
     pub start: u32,
     pub length: u32,
 }
 
 // The answer of the text question: 01's number, and where the chars of the LaTeX alternative and of the text stand.
+#[repr(C)]
 pub struct TextAnswer {
     pub number: u32,
     pub alternative: Span,

@@ -1,8 +1,8 @@
 //! One comparison for each call: both answers, all that is handed back, and every lent element.
 
-use super::library;
 use super::report::{Call, Report};
 use super::runs::Run;
+use crate::library;
 use second::answer::Answer;
 use second::check::{self, Good};
 use second::random::Random;
@@ -110,7 +110,9 @@ impl Comparer {
         let mut our_entries = entries.clone();
         let ours = list::call(asked.good.as_ref(), label, our_entries.inner_mut());
         let runs = (asked.contents.given(), asked.bodies.given());
-        let theirs = library::list(runs.0, runs.1, given.given(), entries.lent());
+        let Some(theirs) = library::list(runs.0, runs.1, given.given(), entries.lent()) else {
+            return ours;
+        };
         let mut memory = asked.changed();
         memory.push(("label", given.first_difference(&given_before)));
         memory.push(("entries", entries.first_difference(&our_entries)));
@@ -122,7 +124,9 @@ impl Comparer {
 
     pub fn paint(&mut self, asked: &mut Asked, row: u32, which: u32) {
         let ours = ask::paint(asked.good.as_ref(), row, which);
-        let theirs = library::paint(asked.contents.given(), asked.bodies.given(), row, which);
+        let Some(theirs) = library::paint(asked.contents.given(), asked.bodies.given(), row, which) else {
+            return;
+        };
         let memory = asked.changed();
         let detail = || format!("row {row}, which {which}");
         let data = || table_data(&asked.table);
@@ -131,7 +135,9 @@ impl Comparer {
 
     pub fn text(&mut self, asked: &mut Asked, row: u32) {
         let ours = ask::text(asked.good.as_ref(), row);
-        let theirs = library::text(asked.contents.given(), asked.bodies.given(), row);
+        let Some(theirs) = library::text(asked.contents.given(), asked.bodies.given(), row) else {
+            return;
+        };
         let memory = asked.changed();
         let detail = || format!("row {row}");
         let data = || table_data(&asked.table);

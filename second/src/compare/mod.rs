@@ -1,7 +1,6 @@
 //! Compares the linked library with this program, call by call, for so many seconds.
 
 mod calls;
-mod library;
 mod report;
 mod rounds;
 mod runs;

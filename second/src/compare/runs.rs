@@ -1,6 +1,6 @@
 //! The runs lent to the library, each inside a longer run whose ends have to stay as they were.
 
-use super::library;
+use crate::library;
 use second::random::Random;
 
 /// The fewest elements on each side of a lent run.

@@ -1,4 +1,5 @@
-//! The linked library: the C functions of the interface.
+//! The linked library: the C functions of the interface. A call that has a feature of its own is None without it, since a library
+//! that lacks the call could not be linked.
 
 use second::answer::{Answer, PaintAnswer, TextAnswer};
 
@@ -24,6 +25,7 @@ extern "C" {
         file_len: usize,
     ) -> Answer;
 
+    #[cfg(feature = "list")]
     fn jdr_list(
         contents: *const u32,
         contents_len: usize,
@@ -35,6 +37,7 @@ extern "C" {
         entries_len: usize,
     ) -> Answer;
 
+    #[cfg(feature = "paint")]
     fn jdr_paint(
         contents: *const u32,
         contents_len: usize,
@@ -44,6 +47,7 @@ extern "C" {
         which: u32,
     ) -> PaintAnswer;
 
+    #[cfg(feature = "text")]
     fn jdr_text(
         contents: *const u32,
         contents_len: usize,
@@ -72,14 +76,39 @@ pub fn write(contents: Given<u32>, bodies: Given<u32>, file: Lent<u8>) -> Answer
     unsafe { jdr_write(contents.0, contents.1, bodies.0, bodies.1, file.0, file.1) }
 }
 
-pub fn list(contents: Given<u32>, bodies: Given<u32>, label: Given<u16>, entries: Lent<u32>) -> Answer {
-    unsafe { jdr_list(contents.0, contents.1, bodies.0, bodies.1, label.0, label.1, entries.0, entries.1) }
+#[cfg(feature = "list")]
+pub fn list(
+    contents: Given<u32>,
+    bodies: Given<u32>,
+    label: Given<u16>,
+    entries: Lent<u32>,
+) -> Option<Answer> {
+    Some(unsafe {
+        jdr_list(contents.0, contents.1, bodies.0, bodies.1, label.0, label.1, entries.0, entries.1)
+    })
 }
 
-pub fn paint(contents: Given<u32>, bodies: Given<u32>, row: u32, which: u32) -> PaintAnswer {
-    unsafe { jdr_paint(contents.0, contents.1, bodies.0, bodies.1, row, which) }
+#[cfg(not(feature = "list"))]
+pub fn list(_: Given<u32>, _: Given<u32>, _: Given<u16>, _: Lent<u32>) -> Option<Answer> {
+    None
 }
 
-pub fn text(contents: Given<u32>, bodies: Given<u32>, row: u32) -> TextAnswer {
-    unsafe { jdr_text(contents.0, contents.1, bodies.0, bodies.1, row) }
+#[cfg(feature = "paint")]
+pub fn paint(contents: Given<u32>, bodies: Given<u32>, row: u32, which: u32) -> Option<PaintAnswer> {
+    Some(unsafe { jdr_paint(contents.0, contents.1, bodies.0, bodies.1, row, which) })
+}
+
+#[cfg(not(feature = "paint"))]
+pub fn paint(_: Given<u32>, _: Given<u32>, _row: u32, _which: u32) -> Option<PaintAnswer> {
+    None
+}
+
+#[cfg(feature = "text")]
+pub fn text(contents: Given<u32>, bodies: Given<u32>, row: u32) -> Option<TextAnswer> {
+    Some(unsafe { jdr_text(contents.0, contents.1, bodies.0, bodies.1, row) })
+}
+
+#[cfg(not(feature = "text"))]
+pub fn text(_: Given<u32>, _: Given<u32>, _row: u32) -> Option<TextAnswer> {
+    None
 }

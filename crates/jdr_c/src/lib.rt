@@ -1,0 +1,29 @@
+// The calls of `jdr` for programs in other languages, under names of C and with C's way of passing: a slice is a pointer and a length in elements, an
+// answer a struct by value. include/jdr.h declares them. Each has the contract of the call that it passes on to, and asks nothing of its inputs but what
+// C cannot say: that a run is as long as it is said to be, and that one lent for writing overlaps no other.
+ghost use Rattle.drawing.specs.Answers.{Reads, Checks, Writes};
+use jdr::Answer;
+
+// `jdr::read`.
+#[no_mangle]
+pub extern "C" fn jdr_read(file: &[u8], contents: &mut [u32], bodies: &mut [u32]) -> Answer
+    ensures { λ r. ⌜ Reads (now (file .entry)) (now (contents .entry)) (now (bodies .entry)) r (now (contents .exit)) (now (bodies .exit)) ⌝ }
+{
+    jdr::read(file, contents, bodies)
+}
+
+// `jdr::check`.
+#[no_mangle]
+pub extern "C" fn jdr_check(contents: &[u32], bodies: &[u32]) -> Answer
+    ensures { λ r. ⌜ Checks (now (contents .entry)) (now (bodies .entry)) r ⌝ }
+{
+    jdr::check(contents, bodies)
+}
+
+// `jdr::write`.
+#[no_mangle]
+pub extern "C" fn jdr_write(contents: &[u32], bodies: &[u32], file: &mut [u8]) -> Answer
+    ensures { λ r. ⌜ Writes (now (contents .entry)) (now (bodies .entry)) (now (file .entry)) r (now (file .exit)) ⌝ }
+{
+    jdr::write(contents, bodies, file)
+}

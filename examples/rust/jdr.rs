@@ -1,0 +1,75 @@
+//! The library's calls for Rust, over slices. Link libjdr_c.a, which tools/library makes.
+
+/// What a call answers: a number (include/jdr.h lists them), the offset, and the counts of rows and of words in the bodies.
+#[repr(C)]
+#[derive(Clone, Copy, Debug, PartialEq, Eq)]
+pub struct Answer {
+    pub number: u32,
+    pub offset: u32,
+    pub rows: u32,
+    pub words: u32,
+}
+
+/// The number of a call that is done.
+pub const ACCEPTED: u32 = 0;
+/// The number of a read that has no room for its rows.
+pub const CONTENTS_TOO_SHORT: u32 = 14;
+/// The words of a row of the contents: kind, parent, start, length.
+pub const ROW_WORDS: usize = 4;
+
+mod c {
+    use super::Answer;
+
+    #[link(name = "jdr_c", kind = "static")]
+    extern "C" {
+        pub fn jdr_read(
+            file: *const u8,
+            file_len: usize,
+            contents: *mut u32,
+            contents_len: usize,
+            bodies: *mut u32,
+            bodies_len: usize,
+        ) -> Answer;
+        pub fn jdr_check(contents: *const u32, contents_len: usize, bodies: *const u32, bodies_len: usize) -> Answer;
+        pub fn jdr_write(
+            contents: *const u32,
+            contents_len: usize,
+            bodies: *const u32,
+            bodies_len: usize,
+            file: *mut u8,
+            file_len: usize,
+        ) -> Answer;
+    }
+}
+
+// Safety of all calls: a slice is aligned and good for its length, and a `&mut` one overlaps no other. The calls take any content.
+
+pub fn read(file: &[u8], contents: &mut [u32], bodies: &mut [u32]) -> Answer {
+    unsafe {
+        c::jdr_read(
+            file.as_ptr(),
+            file.len(),
+            contents.as_mut_ptr(),
+            contents.len(),
+            bodies.as_mut_ptr(),
+            bodies.len(),
+        )
+    }
+}
+
+pub fn check(contents: &[u32], bodies: &[u32]) -> Answer {
+    unsafe { c::jdr_check(contents.as_ptr(), contents.len(), bodies.as_ptr(), bodies.len()) }
+}
+
+pub fn write(contents: &[u32], bodies: &[u32], file: &mut [u8]) -> Answer {
+    unsafe {
+        c::jdr_write(
+            contents.as_ptr(),
+            contents.len(),
+            bodies.as_ptr(),
+            bodies.len(),
+            file.as_mut_ptr(),
+            file.len(),
+        )
+    }
+}

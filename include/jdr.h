@@ -1,0 +1,77 @@
+/* Quorvalli: a proved reader of JDR vector drawings, versions 1.0 to 1.4, for programs in C and C++.
+ *
+ * Every call takes every input, comes to an end and keeps nothing between calls. A run that is lent is a pointer and a length in
+ * elements. A run of no elements may have any pointer, NULL too; any other pointer is good for that many elements and aligned for them.
+ * Runs that are lent for writing overlap no other run of the same call, and no other thread uses them during it. Lent memory changes only
+ * where the number is 0, and then only in what the call hands back.
+ *
+ * Link libjdr_c.a or libjdr_c.so, which tools/library makes.
+ */
+#ifndef JDR_H
+#define JDR_H
+
+#include <stddef.h>
+#include <stdint.h>
+
+#ifdef __cplusplus
+extern "C" {
+#endif
+
+/* The numbers given back. The offset is the first byte of the field at fault where nothing else is said; for 1 to 13 both counts are 0. */
+enum {
+    JDR_ACCEPTED = 0,            /* done; the offset is the file's length, the counts are those of the table */
+    JDR_TOO_LONG = 1,            /* a file of more than JDR_LONGEST_FILE bytes; the offset is that limit */
+    JDR_CUT = 2,                 /* the file ends before or within the field */
+    JDR_NO_JDR = 3,              /* the first field is not 'JDR' */
+    JDR_BAD_VERSION = 4,         /* the version's length is not 3, or the version is none of 1.0 to 1.4 */
+    JDR_BAD_FLAG = 5,            /* a flag is neither 0 nor 1 */
+    JDR_OUT_OF_RANGE = 6,        /* a byte or an integer is outside its list or range, a font size below 0 too */
+    JDR_BAD_CHAR = 7,            /* a char is not allowed here in this version */
+    JDR_BAD_COUNT = 8,           /* a count or length is negative, or 0 where 1 is needed; or a dash count is odd */
+    JDR_BAD_COMPONENT = 9,       /* a paint component is out of range */
+    JDR_TOO_DEEP = 10,           /* a group of depth 17, or a fifth marker in a chain */
+    JDR_FLOW_FRAME = 11,         /* a flow frame flag is 1 */
+    JDR_UNJOINED = 12,           /* a segment's start does not join the end before it (below version 1.3) */
+    JDR_TRAILING_BYTES = 13,     /* bytes after the outer group; the offset is the first of them */
+    JDR_CONTENTS_TOO_SHORT = 14, /* the offset is the file's length, the counts are those needed */
+    JDR_BODIES_TOO_SHORT = 15,   /* the same */
+    JDR_NO_TABLE = 16,           /* no acceptable file gives this table; offset and counts are 0 */
+    JDR_OUTPUT_TOO_SHORT = 17    /* the offset is the bytes needed; the counts are 0 */
+};
+
+/* A longer file is refused. */
+#define JDR_LONGEST_FILE 65535
+
+/* The words of a row of the contents: kind, row of the parent (0 for row 0), start and length of the body in the bodies. */
+#define JDR_ROW_WORDS 4
+
+/* The kinds of rows. */
+enum {
+    JDR_GROUP = 1,
+    JDR_PATH = 2,
+    JDR_TEXT = 3,
+    JDR_BITMAP = 4
+};
+
+/* What a call answers: a number of those above, the offset, and the counts of rows and of words in the bodies. */
+struct jdr_answer {
+    uint32_t number, offset, rows, words;
+};
+
+/* Reads a file into a table: contents, a row an object in the order in which objects open, and bodies, which begin with the minor version
+ * number and the settings. 0 to 15. Room for rows is whole rows. A call with no room gives the counts needed (14), or the refusal. */
+struct jdr_answer jdr_read(const uint8_t *file, size_t file_len, uint32_t *contents, size_t contents_len, uint32_t *bodies,
+                           size_t bodies_len);
+
+/* Whether the two runs are, used words exactly, a table that an acceptable file gives. 0 with that file's length and the counts, or 16. */
+struct jdr_answer jdr_check(const uint32_t *contents, size_t contents_len, const uint32_t *bodies, size_t bodies_len);
+
+/* Writes the file of a table, whose used words are lent exactly. 0 with the bytes written as offset and the counts; 16; or 17. */
+struct jdr_answer jdr_write(const uint32_t *contents, size_t contents_len, const uint32_t *bodies, size_t bodies_len, uint8_t *file,
+                            size_t file_len);
+
+#ifdef __cplusplus
+}
+#endif
+
+#endif

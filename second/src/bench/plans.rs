@@ -1,0 +1,60 @@
+//! The plans that are measured, the same in every run.
+
+use second::generate::special::{nested, plain_drawing};
+use second::generate::{self, chars, Maker};
+use second::model::{Drawing, Object};
+use second::version::{Version, DEEPEST_GROUP};
+use second::write;
+
+/// About how long a large plan is; the limit is 65,535 bytes.
+const LARGE: usize = 60_000;
+
+/// Makes the plans of a sort.
+pub type Make = fn() -> Vec<Drawing>;
+
+pub const ALL: [(&str, Make); 4] = [("small", small), ("paths", paths), ("texts", texts), ("nested", deep)];
+
+/// Plans of some hundred bytes, of all versions.
+fn small() -> Vec<Drawing> {
+    (0..40).map(|seed| generate::drawing(seed, Version::ALL[seed as usize % 5], 300)).collect()
+}
+
+/// One plan of each version, filled with objects of one sort.
+fn filled(object: fn(&mut Maker) -> Object) -> Vec<Drawing> {
+    let of_version = |version| {
+        let mut maker = Maker::new(1, version);
+        let mut objects = Vec::new();
+        let mut used = 0;
+        while used < LARGE {
+            let next = object(&mut maker);
+            used += write::object_length(version, &next);
+            objects.push(next);
+        }
+        plain_drawing(version, objects)
+    };
+    Version::ALL.into_iter().map(of_version).collect()
+}
+
+/// Paths of a hundred segments.
+fn paths() -> Vec<Drawing> {
+    filled(|maker| {
+        let mut path = maker.path();
+        let letters: Vec<u8> = (0..100).map(|_| *maker.random.pick(b"BLM")).collect();
+        path.segments = letters.into_iter().map(|letter| maker.segment_of(letter)).collect();
+        Object::Path(path)
+    })
+}
+
+/// Texts of three hundred chars, half of them with LaTeX fields.
+fn texts() -> Vec<Drawing> {
+    filled(|maker| {
+        let mut text = maker.text();
+        text.text = chars(&"Machine 7, hall 3. ".repeat(16));
+        Object::Text(text)
+    })
+}
+
+/// Bitmaps, each inside as many groups as there may be.
+fn deep() -> Vec<Drawing> {
+    filled(|maker| nested(Object::Bitmap(maker.bitmap()), DEEPEST_GROUP - 1))
+}

@@ -1,0 +1,166 @@
+//! The walk over a table, into nothing or into the bytes of a file.
+
+use super::walk::{self, too_deep, Opened, Walk, BITMAP, GROUP};
+use crate::table::ROW;
+
+/// Where bytes go.
+pub trait Bytes {
+    fn field<const WIDTH: usize>(&mut self, bits: u32);
+    /// The bytes of the words of a run; words of width 8 are halves of doubles. False where a word is no value of its field.
+    fn run<const WIDTH: usize>(&mut self, words: &[u32]) -> bool;
+}
+
+#[derive(Default)]
+pub struct Counted {
+    pub bytes: usize,
+}
+
+impl Bytes for Counted {
+    fn field<const WIDTH: usize>(&mut self, _bits: u32) {
+        self.bytes += WIDTH;
+    }
+
+    fn run<const WIDTH: usize>(&mut self, words: &[u32]) -> bool {
+        self.bytes += words.len() * WIDTH.min(4);
+        WIDTH != 2 || words.iter().fold(0, |all, word| all | word) <= 0xFFFF
+    }
+}
+
+pub struct Stored<'a> {
+    file: &'a mut [u8],
+    at: usize,
+}
+
+impl<'a> Stored<'a> {
+    pub fn new(file: &'a mut [u8]) -> Stored<'a> {
+        Stored { file, at: 0 }
+    }
+}
+
+impl Bytes for Stored<'_> {
+    fn field<const WIDTH: usize>(&mut self, bits: u32) {
+        let bytes = bits.to_be_bytes();
+        self.file[self.at..][..WIDTH].copy_from_slice(&bytes[4 - WIDTH..]);
+        self.at += WIDTH;
+    }
+
+    fn run<const WIDTH: usize>(&mut self, words: &[u32]) -> bool {
+        let count = words.len() * WIDTH.min(4);
+        let bytes = &mut self.file[self.at..][..count];
+        if WIDTH == 2 {
+            for (char, word) in bytes.chunks_exact_mut(2).zip(words) {
+                char.copy_from_slice(&(*word as u16).to_be_bytes());
+            }
+        } else {
+            for (four, word) in bytes.chunks_exact_mut(4).zip(words) {
+                four.copy_from_slice(&word.to_be_bytes());
+            }
+        }
+        self.at += count;
+        true
+    }
+}
+
+pub struct FromTable<'a, B> {
+    contents: &'a [u32],
+    bodies: &'a [u32],
+    /// The next row, and the next word.
+    row: usize,
+    at: usize,
+    out: B,
+}
+
+/// No acceptable file gives this table.
+pub struct NoTable;
+
+impl<'a, B: Bytes> FromTable<'a, B> {
+    pub fn new(contents: &'a [u32], bodies: &'a [u32], out: B) -> FromTable<'a, B> {
+        FromTable { contents, bodies, row: 0, at: 0, out }
+    }
+
+    fn word(&mut self) -> Result<u32, NoTable> {
+        let word = *self.bodies.get(self.at).ok_or(NoTable)?;
+        self.at += 1;
+        Ok(word)
+    }
+}
+
+fn only_if(good: bool) -> Result<(), NoTable> {
+    if good {
+        Ok(())
+    } else {
+        Err(NoTable)
+    }
+}
+
+impl<B: Bytes> Walk for FromTable<'_, B> {
+    type Stop = NoTable;
+
+    fn field<const WIDTH: usize>(&mut self, fault: impl FnOnce(u32) -> u32) -> Result<u32, NoTable> {
+        let word = self.word()?;
+        only_if((WIDTH == 4 || word >> (8 * WIDTH) == 0) && fault(word) == 0)?;
+        self.out.field::<WIDTH>(word);
+        Ok(word)
+    }
+
+    fn double(&mut self, fault: impl FnOnce(u64) -> u32) -> Result<u64, NoTable> {
+        let (high, low) = (self.word()?, self.word()?);
+        let double = u64::from(high) << 32 | u64::from(low);
+        only_if(fault(double) == 0)?;
+        self.out.field::<4>(high);
+        self.out.field::<4>(low);
+        Ok(double)
+    }
+
+    fn run<const WIDTH: usize>(&mut self, count: usize) -> Result<(), NoTable> {
+        let words = if WIDTH == 8 { 2 * count } else { count };
+        let run = self.bodies[self.at..].get(..words).ok_or(NoTable)?;
+        self.at += words;
+        only_if(self.out.run::<WIDTH>(run))
+    }
+
+    fn open(&mut self, parent: usize, depth: u32) -> Result<Opened, NoTable> {
+        let row = self.row;
+        let words = self.contents.get(row * ROW..).and_then(|rest| rest.first_chunk::<ROW>());
+        let [kind, its_parent, start, _] = *words.ok_or(NoTable)?;
+        let kind_is_good = (GROUP..=BITMAP).contains(&kind) && (depth > 1 || kind == GROUP);
+        only_if(kind_is_good && !too_deep(kind, depth) && its_parent as usize == parent)?;
+        only_if(kind == GROUP || start as usize == self.at)?;
+        self.row += 1;
+        self.out.field::<2>(u32::from(b"GPTI"[kind as usize - 1]));
+        Ok(Opened { row, kind, start: start as usize })
+    }
+
+    fn members(&mut self, opened: &Opened) -> Result<u32, NoTable> {
+        let n = *self.bodies.get(opened.start).ok_or(NoTable)?;
+        only_if(n.cast_signed() >= 1)?;
+        self.out.field::<4>(n);
+        Ok(n)
+    }
+
+    fn members_done(&mut self, opened: &mut Opened, _n: u32) -> Result<(), NoTable> {
+        only_if(opened.start == self.at)?;
+        self.at += 1;
+        Ok(())
+    }
+
+    fn close(&mut self, opened: Opened, _parent: usize) -> Result<(), NoTable> {
+        only_if(self.contents[opened.row * ROW + 3] as usize == self.at - opened.start)
+    }
+}
+
+/// The whole table.
+pub fn walk<B: Bytes>(mut from: FromTable<B>) -> Option<B> {
+    let minor = from.word().ok().filter(|minor| *minor <= 4)?;
+    for char in *b"JDR" {
+        from.out.field::<2>(u32::from(char));
+    }
+    from.out.field::<4>(3);
+    for char in [b'1', b'.', b'0' + minor as u8] {
+        from.out.field::<2>(u32::from(char));
+    }
+    walk::settings(&mut from, minor).ok()?;
+    walk::object(&mut from, minor, 0, 1).ok()?;
+    let all_used = from.row * ROW == from.contents.len() && from.at == from.bodies.len();
+    all_used.then_some(from.out)
+}
