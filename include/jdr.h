@@ -36,7 +36,8 @@ enum {
     JDR_CONTENTS_TOO_SHORT = 14, /* the offset is the file's length, the counts are those needed */
     JDR_BODIES_TOO_SHORT = 15,   /* the same */
     JDR_NO_TABLE = 16,           /* no acceptable file gives this table; offset and counts are 0 */
-    JDR_OUTPUT_TOO_SHORT = 17    /* the offset is the bytes needed; the counts are 0 */
+    JDR_OUTPUT_TOO_SHORT = 17,   /* the offset is the bytes needed; the counts are 0 */
+    JDR_LIST_TOO_SHORT = 18      /* the offset is the entries needed; the counts are 0 */
 };
 
 /* A longer file is refused. */
@@ -69,6 +70,11 @@ struct jdr_answer jdr_check(const uint32_t *contents, size_t contents_len, const
 /* Writes the file of a table, whose used words are lent exactly. 0 with the bytes written as offset and the counts; 16; or 17. */
 struct jdr_answer jdr_write(const uint32_t *contents, size_t contents_len, const uint32_t *bodies, size_t bodies_len, uint8_t *file,
                             size_t file_len);
+
+/* Lists the rows of a table, whose used words are lent exactly, that have the label for their description: its chars, compared whole. 0 with
+ * how many they are as rows, and the row numbers in the order in which the objects open; 16; or 18. */
+struct jdr_answer jdr_list(const uint32_t *contents, size_t contents_len, const uint32_t *bodies, size_t bodies_len, const uint16_t *label,
+                           size_t label_len, uint32_t *entries, size_t entries_len);
 
 #ifdef __cplusplus
 }

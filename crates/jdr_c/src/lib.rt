@@ -2,6 +2,7 @@
 // answer a struct by value. include/jdr.h declares them. Each has the contract of the call that it passes on to, and asks nothing of its inputs but what
 // C cannot say: that a run is as long as it is said to be, and that one lent for writing overlaps no other.
 ghost use Rattle.drawing.specs.Answers.{Reads, Checks, Writes};
+ghost use Rattle.questions.specs.Lists.{Lists};
 use jdr::Answer;
 
 // `jdr::read`.
@@ -26,4 +27,17 @@ pub extern "C" fn jdr_write(contents: &[u32], bodies: &[u32], file: &mut [u8]) -
     ensures { λ r. ⌜ Writes (now (contents .entry)) (now (bodies .entry)) (now (file .entry)) r (now (file .exit)) ⌝ }
 {
     jdr::write(contents, bodies, file)
+}
+
+// `jdr::list`.
+#[no_mangle]
+pub extern "C" fn jdr_list(
+    contents: &[u32],
+    bodies: &[u32],
+    label: &[u16],
+    entries: &mut [u32],
+) -> Answer
+    ensures { λ r. ⌜ Lists (now (contents .entry)) (now (bodies .entry)) (now (label .entry)) (now (entries .entry)) r (now (entries .exit)) ⌝ }
+{
+    jdr::list(contents, bodies, label, entries)
 }
