@@ -30,7 +30,12 @@ mod c {
             bodies: *mut u32,
             bodies_len: usize,
         ) -> Answer;
-        pub fn jdr_check(contents: *const u32, contents_len: usize, bodies: *const u32, bodies_len: usize) -> Answer;
+        pub fn jdr_check(
+            contents: *const u32,
+            contents_len: usize,
+            bodies: *const u32,
+            bodies_len: usize,
+        ) -> Answer;
         pub fn jdr_write(
             contents: *const u32,
             contents_len: usize,

@@ -73,8 +73,8 @@ fn instructions(plans: &str, call: Call, who: Who, bytes: usize) -> Option<f64> 
 }
 
 pub fn run() -> Result<ExitCode, String> {
-    println!("| plans | bytes | call | library | direct | plain | memcpy | library/direct | library i/B | direct i/B | plain i/B |");
-    println!("|---|---|---|---|---|---|---|---|---|---|---|");
+    println!("| plans | bytes | call | library | direct | plain | memcpy | library/direct | library i/B | direct i/B | plain i/B | direct/library |");
+    println!("|---|---|---|---|---|---|---|---|---|---|---|---|");
     for (name, make) in plans::ALL {
         let mut work = Work::new(&make());
         let bytes = work.bytes();
@@ -83,17 +83,21 @@ pub fn run() -> Result<ExitCode, String> {
                 Some(who) => work.repeat(call, *who),
                 None => copy(&mut work),
             });
+            let speeds =
+                format!("{library:.0} | {direct:.0} | {plain:.0} | {copied:.0} | {:.2}", library / direct);
             let counts = Who::ALL.map(|who| instructions(name, call, who, bytes));
-            let counts = counts.map(|count| count.map_or("-".to_string(), |count| format!("{count:.2}")));
-            println!(
-                "| {name} | {bytes} | {} | {library:.0} | {direct:.0} | {plain:.0} | {copied:.0} | {:.2} | {} |",
-                call.name(),
-                library / direct,
-                counts.join(" | ")
-            );
+            println!("| {name} | {bytes} | {} | {speeds} | {} |", call.name(), counts_in_words(counts));
         }
     }
     Ok(ExitCode::SUCCESS)
+}
+
+/// Instructions for each byte, and the tuned call's as a part of the library's; '-' where nothing counted them.
+fn counts_in_words([library, direct, plain]: [Option<f64>; 3]) -> String {
+    let ratio = library.zip(direct).map(|(library, direct)| direct / library);
+    let words = [library, direct, plain, ratio]
+        .map(|count| count.map_or("-".to_string(), |count| format!("{count:.2}")));
+    words.join(" | ")
 }
 
 /// The calls of one kind over and over, and nothing else.

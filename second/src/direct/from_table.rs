@@ -1,4 +1,4 @@
-//! The walk over a table, into nothing or into the bytes of a file.
+//! The walk over a table, into nothing or into the bytes of a file. Inlined by order, as the walk over a file is.
 
 use super::walk::{self, too_deep, Opened, Walk, BITMAP, GROUP};
 use crate::table::ROW;
@@ -16,10 +16,12 @@ pub struct Counted {
 }
 
 impl Bytes for Counted {
+    #[inline(always)]
     fn field<const WIDTH: usize>(&mut self, _bits: u32) {
         self.bytes += WIDTH;
     }
 
+    #[inline(always)]
     fn run<const WIDTH: usize>(&mut self, words: &[u32]) -> bool {
         self.bytes += words.len() * WIDTH.min(4);
         WIDTH != 2 || words.iter().fold(0, |all, word| all | word) <= 0xFFFF
@@ -38,12 +40,14 @@ impl<'a> Stored<'a> {
 }
 
 impl Bytes for Stored<'_> {
+    #[inline(always)]
     fn field<const WIDTH: usize>(&mut self, bits: u32) {
         let bytes = bits.to_be_bytes();
         self.file[self.at..][..WIDTH].copy_from_slice(&bytes[4 - WIDTH..]);
         self.at += WIDTH;
     }
 
+    #[inline(always)]
     fn run<const WIDTH: usize>(&mut self, words: &[u32]) -> bool {
         let count = words.len() * WIDTH.min(4);
         let bytes = &mut self.file[self.at..][..count];
@@ -78,6 +82,7 @@ impl<'a, B: Bytes> FromTable<'a, B> {
         FromTable { contents, bodies, row: 0, at: 0, out }
     }
 
+    #[inline(always)]
     fn word(&mut self) -> Result<u32, NoTable> {
         let word = *self.bodies.get(self.at).ok_or(NoTable)?;
         self.at += 1;
@@ -96,6 +101,7 @@ fn only_if(good: bool) -> Result<(), NoTable> {
 impl<B: Bytes> Walk for FromTable<'_, B> {
     type Stop = NoTable;
 
+    #[inline(always)]
     fn field<const WIDTH: usize>(&mut self, fault: impl FnOnce(u32) -> u32) -> Result<u32, NoTable> {
         let word = self.word()?;
         only_if((WIDTH == 4 || word >> (8 * WIDTH) == 0) && fault(word) == 0)?;
@@ -103,6 +109,7 @@ impl<B: Bytes> Walk for FromTable<'_, B> {
         Ok(word)
     }
 
+    #[inline(always)]
     fn double(&mut self, fault: impl FnOnce(u64) -> u32) -> Result<u64, NoTable> {
         let (high, low) = (self.word()?, self.word()?);
         let double = u64::from(high) << 32 | u64::from(low);
@@ -112,6 +119,7 @@ impl<B: Bytes> Walk for FromTable<'_, B> {
         Ok(double)
     }
 
+    #[inline(always)]
     fn run<const WIDTH: usize>(&mut self, count: usize) -> Result<(), NoTable> {
         let words = if WIDTH == 8 { 2 * count } else { count };
         let run = self.bodies[self.at..].get(..words).ok_or(NoTable)?;
@@ -119,6 +127,7 @@ impl<B: Bytes> Walk for FromTable<'_, B> {
         only_if(self.out.run::<WIDTH>(run))
     }
 
+    #[inline(always)]
     fn open(&mut self, parent: usize, depth: u32) -> Result<Opened, NoTable> {
         let row = self.row;
         let words = self.contents.get(row * ROW..).and_then(|rest| rest.first_chunk::<ROW>());
@@ -131,6 +140,7 @@ impl<B: Bytes> Walk for FromTable<'_, B> {
         Ok(Opened { row, kind, start: start as usize })
     }
 
+    #[inline(always)]
     fn members(&mut self, opened: &Opened) -> Result<u32, NoTable> {
         let n = *self.bodies.get(opened.start).ok_or(NoTable)?;
         only_if(n.cast_signed() >= 1)?;
@@ -138,12 +148,14 @@ impl<B: Bytes> Walk for FromTable<'_, B> {
         Ok(n)
     }
 
+    #[inline(always)]
     fn members_done(&mut self, opened: &mut Opened, _n: u32) -> Result<(), NoTable> {
         only_if(opened.start == self.at)?;
         self.at += 1;
         Ok(())
     }
 
+    #[inline(always)]
     fn close(&mut self, opened: Opened, _parent: usize) -> Result<(), NoTable> {
         only_if(self.contents[opened.row * ROW + 3] as usize == self.at - opened.start)
     }
