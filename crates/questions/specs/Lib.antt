@@ -8,3 +8,7 @@ pub mod Lists
 pub mod CharLaws
 pub mod EndLaws
 pub mod LabelLaws
+pub mod Places
+pub mod PaintQuestion
+pub mod PaintPlaceLaws
+pub mod PaintWordLaws

@@ -2,4 +2,5 @@
 pub mod entries;
 pub mod label;
 pub mod list;
+pub mod paint_words;
 pub mod rows;
