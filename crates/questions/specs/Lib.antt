@@ -12,3 +12,8 @@ pub mod Places
 pub mod PaintQuestion
 pub mod PaintPlaceLaws
 pub mod PaintWordLaws
+pub mod RowQuestions
+pub mod TextQuestion
+pub mod TextPlaceLaws
+pub mod TextWordLaws
+pub mod PaintQuestionLaws

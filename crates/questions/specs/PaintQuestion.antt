@@ -19,8 +19,8 @@ pub record Paints (contents bodies : List ℕ) (row : ℕ) (which : Which) (r : 
   pub says : r ≡ paintAnswer contents bodies row which
 
 -- The answer for the object of a row.
-abbrev pub PaintOf : (contents bodies : List ℕ) → (v row : ℕ) → Which → PaintAnswer → Type 0
-PaintOf c bs v row which r = (o : Object) → RowBody c bs v row o → r ≡ paintValue (orRefusal 7 (paintPart which o))
+abbrev pub PaintOf : (contents bodies : List ℕ) → ℕ → Which → PaintAnswer → Type 0
+PaintOf c bs row which r = (v : ℕ) (o : Object) → RowBody c bs v row o → r ≡ paintValue (orRefusal 7 (paintPart which o))
 
 -- ---- plain paints
 

@@ -3,6 +3,7 @@ use mathlib.Core.Path.{_≡_, refl, sym, ap, ap₂, subst, _∙_}
 use mathlib.Core.Bool.{Bool, true, false, not, cond, _&&_}
 use Prim.Native.Nat.{ℕ, _+_, _/_, _%_, _^_, _<_, _≤_}
 use Prim.Native.Char.{code}
+use native.Mathlib.Nat.{add-zero}
 use native.Mathlib.Omega.{arith}
 use mathlib.Core.List.{List, [], _∷_, _++_}
 use lib.ListN.{length, drop, getD}
@@ -170,3 +171,138 @@ paint-good v (P.radial f t l) good = by (leb 4 v) (leb 3 v) refl refl
     by false true e d = let it = gradient-parts v f t l 8 ((rw d at (neither (leb 4 v) _ _ _ (good .1))) .1) in (rw (e, e, d) (ap (λ l. code "D" ∷ l) (it .0)), it .1)
     by true false e d = let k = rw d at (neither (leb 4 v) _ _ _ (good .1)) in absurd k
     by false false e d = let k = rw d at (neither (leb 4 v) _ _ _ (good .1)) in absurd k
+
+-- ---- what stands where they stand
+
+plain-size : (p : P.Plain) → plainSize (P.plainLetter p) ≡ length (plainWords p)
+plain-size P.transparent = refl
+plain-size (P.rgb r g b a) = refl
+plain-size (P.cmyk c m y k a) = refl
+plain-size (P.grey g a) = refl
+plain-size (P.hsb h s b a) = refl
+
+no-gradient : (p : P.Plain) → (P.plainLetter p ≡ code "G" → ⊥) × (P.plainLetter p ≡ code "D" → ⊥)
+no-gradient P.transparent = (λ e. omega arith, λ e. omega arith)
+no-gradient (P.rgb r g b a) = (λ e. omega arith, λ e. omega arith)
+no-gradient (P.cmyk c m y k a) = (λ e. omega arith, λ e. omega arith)
+no-gradient (P.grey g a) = (λ e. omega arith, λ e. omega arith)
+no-gradient (P.hsb h s b a) = (λ e. omega arith, λ e. omega arith)
+
+-- The plain paint at the beginning of a list.
+abbrev plainIn : List ℕ → P.Plain
+plainIn l = plainOf (getD l 0 0) (getD l 1 0) (getD l 2 0) (getD l 3 0) (getD l 4 0) (getD l 5 0)
+
+plain-in : (p : P.Plain) (rest : List ℕ) → plainIn (plainWords p ++ rest) ≡ p
+plain-in P.transparent rest = refl
+plain-in (P.rgb r g b a) rest = refl
+plain-in (P.cmyk c m y k a) rest = refl
+plain-in (P.grey g a) rest = refl
+plain-in (P.hsb h s b a) rest = refl
+
+plain-first : {ws : List ℕ} {at end : ℕ} (p : P.Plain) {rest : List ℕ} → Stands ws at end (plainWords p) rest → getD ws at 0 ≡ P.plainLetter p
+plain-first P.transparent stands = first-word stands
+plain-first (P.rgb r g b a) stands = first-word stands
+plain-first (P.cmyk c m y k a) stands = first-word stands
+plain-first (P.grey g a) stands = first-word stands
+plain-first (P.hsb h s b a) stands = first-word stands
+
+-- This plain paint stands here, and ends there.
+record PlainIs (ws : List ℕ) (at end : ℕ) (p : P.Plain) : Type 0 where
+  is : plainAt ws at ≡ p
+  end-is : plainEnd ws at ≡ end
+  here : PlainHere ws at
+
+plain-stands : {ws : List ℕ} {at end : ℕ} (p : P.Plain) {rest : List ℕ} → Numbers p → Stands ws at end (plainWords p) rest → PlainIs ws at end p
+unfolding plainAt
+plain-stands {ws} {at} {end} p {rest} numbers stands =
+    let there : plainAt ws at ≡ plainIn (drop at ws) = simp (getD-drop, add-zero) in
+    let is : plainAt ws at ≡ p = there ∙ ap plainIn (stands .words-are) ∙ plain-in p rest in
+    let end-is : plainEnd ws at ≡ end = end-lettered ws at (plain-first p stands) ∙ ap (λ n. at + n) (plain-size p) ∙ stands .end-is in
+    record { is = is; end-is = end-is; here = record { inside = omega (arith, end-is, stands .inside); numbers = subst Numbers (sym is) numbers } }
+
+-- These parts of a gradient stand here.
+record GradientIs (ws : List ℕ) (at end : ℕ) (f t : P.Plain) (n : ℕ) : Type 0 where
+  start-is : plainAt ws at ≡ f
+  end-is : plainAt ws (plainEnd ws at) ≡ t
+  last-is : getD ws (lastAt ws at) 0 ≡ n
+  behind : lastAt ws at + 1 ≡ end
+  here : GradientHere ws at
+
+gradient-stands : {ws : List ℕ} {at end : ℕ} (f t : P.Plain) (n : ℕ) {rest : List ℕ} → Numbers f × Numbers t → Stands ws at end (plainWords f ++ (plainWords t ++ (n ∷ []))) rest
+    → GradientIs ws at end f t n
+gradient-stands {ws} {at} {end} f t n numbers stands =
+    let F = plainWords f in
+    let T = plainWords t in
+    let first = plain-stands f (numbers .0) (stands-first F (T ++ (n ∷ [])) stands) in
+    let next = stands-at (sym (first .end-is)) (stands-next F (T ++ (n ∷ [])) stands) in
+    let second = plain-stands t (numbers .1) (stands-first T (n ∷ []) next) in
+    let last = stands-at (sym (second .end-is)) (stands-next T (n ∷ []) next) in
+    record {
+      start-is = first .is;
+      end-is = second .is;
+      last-is = first-word last;
+      behind = last .end-is;
+      here = record { start = first .here; end = second .here; last = first-inside last };
+    }
+
+-- This paint stands here, and ends there.
+pub record PaintIs (ws : List ℕ) (at end : ℕ) (p : P.Paint) : Type 0 where
+  pub is : paintAt ws at ≡ p
+  pub end-is : paintEnd ws at ≡ end
+  pub here : PaintHere ws at
+
+paint-stands : {ws : List ℕ} {at end : ℕ} (p : P.Paint) {rest : List ℕ} → PaintNumbers p → Stands ws at end (paintWords p) rest → PaintIs ws at end p
+paint-stands {ws} {at} {end} (P.plain p) numbers stands =
+    let letter = plain-first p stands in
+    let g : getD ws at 0 ≡ code "G" → ⊥ = λ e. no-gradient p .0 (sym letter ∙ e) in
+    let d : getD ws at 0 ≡ code "D" → ⊥ = λ e. no-gradient p .1 (sym letter ∙ e) in
+    let it = plain-stands p numbers stands in
+    record {
+      is = paint-plain ws at g d ∙ ap (λ x. P.plain x) (it .is);
+      end-is = paint-to-plain ws at g d ∙ it .end-is;
+      here = record { inside = plain-begins ws at (it .here .inside); linear = λ e. absurd (g e); radial = λ e. absurd (d e); plain = λ x y. it .here };
+    }
+paint-stands {ws} {at} {end} (P.linear f t n) numbers stands =
+    let letter = first-word stands in
+    let it = gradient-stands f t n numbers (stands-next (code "G" ∷ []) (plainWords f ++ (plainWords t ++ (n ∷ []))) stands) in
+    let same = paint-lettered ws at letter in
+    let start-is = it .start-is in
+    let end-is = it .end-is in
+    let last-is = it .last-is in
+    record {
+      is = cc;
+      end-is = paint-to ws at letter ∙ it .behind;
+      here =
+          record {
+            inside = first-inside stands;
+            linear = λ e. it .here;
+            radial = λ e. absurd (let n : _≡_ {A = ℕ} (code "G") (code "D") = sym letter ∙ e in omega arith);
+            plain = λ x y. absurd (x letter);
+          };
+    }
+paint-stands {ws} {at} {end} (P.radial f t n) numbers stands =
+    let letter = first-word stands in
+    let it = gradient-stands f t n numbers (stands-next (code "D" ∷ []) (plainWords f ++ (plainWords t ++ (n ∷ []))) stands) in
+    let same = paint-lettered ws at letter in
+    let start-is = it .start-is in
+    let end-is = it .end-is in
+    let last-is = it .last-is in
+    record {
+      is = cc;
+      end-is = paint-to ws at letter ∙ it .behind;
+      here =
+          record {
+            inside = first-inside stands;
+            linear = λ e. absurd (let n : _≡_ {A = ℕ} (code "D") (code "G") = sym letter ∙ e in omega arith);
+            radial = λ e. it .here;
+            plain = λ x y. absurd (y letter);
+          };
+    }
+
+-- Where a good paint's words stand, with more behind them.
+module _ (v : ℕ) {ws : List ℕ} {at end : ℕ} (p : P.Paint) (more : List ℕ) {rest : List ℕ} (good : P.paint v .Good p) (stands : Stands ws at end (wordsOf (P.paint v) p ++ more) rest) where
+  pub paint-is : PaintIs ws at (at + length (wordsOf (P.paint v) p)) p
+  paint-is = let it = paint-good v p good in paint-stands p (it .1) (stands-same (it .0) (stands-first (wordsOf (P.paint v) p) more stands))
+
+  pub behind-paint : Stands ws (paintEnd ws at) end more rest
+  behind-paint = stands-at (sym (paint-is .end-is)) (stands-next (wordsOf (P.paint v) p) more stands)

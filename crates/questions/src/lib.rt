@@ -2,5 +2,7 @@
 pub mod entries;
 pub mod label;
 pub mod list;
+pub mod paint;
 pub mod paint_words;
 pub mod rows;
+pub mod text_words;
