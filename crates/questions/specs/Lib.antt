@@ -17,3 +17,4 @@ pub mod TextQuestion
 pub mod TextPlaceLaws
 pub mod TextWordLaws
 pub mod PaintQuestionLaws
+pub mod TextQuestionLaws

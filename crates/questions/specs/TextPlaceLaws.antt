@@ -6,7 +6,9 @@ use mathlib.Core.List.{List}
 use lib.ListN.{getD}
 use lib.Dec.{eqb}
 use borrow.Author.Tests.{ne-eqb}
-use Rattle.questions.specs.TextQuestion.{stringEnd, alternativeAt, latexEnd}
+use Rattle.drawing.specs.declared.Span.{Span}
+use Rattle.drawing.specs.Questions.{noSpan}
+use Rattle.questions.specs.TextQuestion.{stringEnd, alternativeAt, latexEnd, charsAt, alternativeFrom}
 
 module _ (ws : List ℕ) where
   pub string-is : (at : ℕ) → stringEnd ws at ≡ at + 1 + getD ws at 0
@@ -30,3 +32,16 @@ module _ (ws : List ℕ) where
     pub no-latex : (getD ws at 0 ≡ 1 → ⊥) → latexEnd ws at ≡ at + 1
     unfolding latexEnd
     no-latex other = simp (ne-eqb (getD ws at 0) 1 other)
+
+    -- ---- the alternative's chars
+
+    abbrev pub alternativeBy : ℕ → Span
+    alternativeBy flag = cond (eqb flag 1) (charsAt ws (alternativeAt ws (at + 1))) noSpan
+
+    pub alternative-by : {flag : ℕ} → getD ws at 0 ≡ flag → alternativeFrom ws at ≡ alternativeBy flag
+    unfolding alternativeFrom
+    alternative-by is = ap alternativeBy is
+
+    pub no-alternative : (getD ws at 0 ≡ 1 → ⊥) → alternativeFrom ws at ≡ noSpan
+    unfolding alternativeFrom
+    no-alternative other = simp (ne-eqb (getD ws at 0) 1 other)

@@ -1,6 +1,7 @@
--- What `text` and `shown` promise; and the places of a text's fields in the bodies.
+-- What `text` promises; and the places of a text's fields in the bodies.
 use mathlib.Core.Path.{_≡_}
 use mathlib.Core.Bool.{cond}
+use mathlib.Core.Option.{Option·map}
 use Prim.Native.Nat.{ℕ, _+_, _<_, _≤_}
 use mathlib.Core.List.{List}
 use lib.ListN.{length, getD}
@@ -8,12 +9,24 @@ use lib.Dec.{eqb}
 use Rattle.drawing.specs.declared.Span.{Span}
 use Rattle.drawing.specs.declared.TextAnswer.{TextAnswer}
 use Rattle.drawing.specs.Limits.{lengthLimit}
-use Rattle.drawing.specs.Questions.{noSpan, textAnswer}
+use Rattle.drawing.specs.Object.{Object}
+use Rattle.drawing.specs.ObjectId.{textOf}
+use Rattle.drawing.specs.Table.{startIn}
+use Rattle.drawing.specs.Questions.{orRefusal, leafPart, noSpan, textValue, textAnswer}
+use Rattle.questions.specs.RowBodies.{RowBody}
 use Rattle.questions.specs.PaintQuestion.{PaintHere, paintEnd}
 
 -- The answer is `textAnswer` (crates/drawing/specs/Questions.antt), for every two runs of words and every row.
 pub record Texts (contents bodies : List ℕ) (row : ℕ) (r : TextAnswer) : Type 0 where
   pub says : r ≡ textAnswer contents bodies row
+
+-- The answer for the object of a row, in a drawing of this version.
+abbrev pub TextOf : (contents bodies : List ℕ) → ℕ → TextAnswer → Type 0
+TextOf c bs row r =
+    (v : ℕ) (o : Object) → RowBody c bs v row o → r ≡ textValue (startIn c row) (orRefusal 7 (Option·map (λ t. (v, t)) (leafPart textOf o)))
+
+abbrev pub noText : ℕ → TextAnswer
+noText n = record { number = n; alternative = noSpan; text = noSpan }
 
 -- ---- places
 
@@ -33,7 +46,7 @@ alternativeAt ws at = stringEnd ws (stringEnd ws (stringEnd ws (stringEnd ws at)
 unfoldable pub latexEnd : List ℕ → ℕ → ℕ
 latexEnd ws at = cond (eqb (getD ws at 0) 1) (stringEnd ws (alternativeAt ws (at + 1))) (at + 1)
 
--- A string is inside.
+-- The strings of LaTeX fields, from behind their flag on.
 pub record FieldsHere (ws : List ℕ) (at : ℕ) : Type 0 where
   pub family : at < length ws
   pub series : stringEnd ws at < length ws
@@ -64,7 +77,3 @@ charsAt ws at = record { start = at + 1; length = getD ws at 0 }
 
 unfoldable pub alternativeFrom : List ℕ → ℕ → Span
 alternativeFrom ws at = cond (eqb (getD ws at 0) 1) (charsAt ws (alternativeAt ws (at + 1))) noSpan
-
-abbrev pub textFrom : List ℕ → ℕ → TextAnswer
-textFrom ws at =
-    record { number = 0; alternative = alternativeFrom ws (fontEnd ws at); text = charsAt ws (paintEnd ws (paintPlace ws at)) }

@@ -2,7 +2,7 @@
 use mathlib.Core.Path.{_≡_, refl, sym, ap, ap₂, subst, _∙_}
 use mathlib.Core.Bool.{Bool, true, false, cond}
 use mathlib.Core.Option.{Option, none, some}
-use Prim.Native.Nat.{ℕ, zero, suc, _+_, _*_, _^_, _<_, _≤_}
+use Prim.Native.Nat.{ℕ, zero, suc, _+_, _-_, _*_, _^_, _<_, _≤_}
 use native.Mathlib.Omega.{arith}
 use mathlib.Core.List.{List, [], _∷_, _++_}
 use lib.ListN.{length, getD, length-append}
@@ -14,11 +14,13 @@ use Rattle.drawing.specs.Fields.{byteIn, fontSize, double}
 use Rattle.drawing.specs.String.{String, string}
 use Rattle.drawing.specs.Choices.{ifFlag}
 use Rattle.drawing.specs.Text as T
+use Rattle.drawing.specs.declared.Span.{Span}
+use Rattle.drawing.specs.Questions.{span, noSpan}
 use Rattle.drawing.specs.Table.{wordsOf}
 use Rattle.questions.specs.RowBodyLaws.{pair-words, string-words, latex-words}
 use Rattle.questions.specs.Places.{Stands, stands-same, stands-first, stands-next, stands-at, first-word, first-inside}
-use Rattle.questions.specs.TextQuestion.{stringEnd, fontEnd, alternativeAt, latexEnd, FieldsHere, LatexHere}
-use Rattle.questions.specs.TextPlaceLaws.{latex-to}
+use Rattle.questions.specs.TextQuestion.{stringEnd, fontEnd, alternativeAt, latexEnd, FieldsHere, LatexHere, charsAt, alternativeFrom}
+use Rattle.questions.specs.TextPlaceLaws.{latex-to, alternative-by}
 
 -- ---- strings
 
@@ -143,3 +145,24 @@ module _ {ws : List ℕ} {at end : ℕ} (o : Option T.Latex) (more : List ℕ) {
 
   pub behind-latex : Stands ws (latexEnd ws at) end more rest
   behind-latex = stands-at (sym (latex-here .end-is)) (stands-next (wordsOf (ifFlag T.latex) o) more stands)
+
+-- ---- spans
+
+-- The alternative's chars, which end the LaTeX fields that begin here.
+abbrev pub alternativeIn : ℕ → Option T.Latex → Span
+alternativeIn at none = noSpan
+alternativeIn at (some l) = span (at + (length (wordsOf (ifFlag T.latex) (some l)) - length (l .alternative))) (l .alternative)
+
+pub chars-are : {ws : List ℕ} {at end : ℕ} {s : String} → StringIs ws at end s → (start : ℕ) → start + length s ≡ end → charsAt ws at ≡ span start s
+unfolding charsAt
+chars-are {at = at} it start start-is =
+    let same : at + 1 ≡ start = omega (arith, it .size-is, start-is) in
+    ap₂ (λ n k. record { start = n; length = k }) same (it .length-is)
+
+pub alternative-are : {ws : List ℕ} {at end : ℕ} (o : Option T.Latex) {rest : List ℕ} → ifFlag T.latex .Good o → Stands ws at end (wordsOf (ifFlag T.latex) o) rest → alternativeFrom ws at ≡ alternativeIn at o
+alternative-are {ws} {at} none good stands = alternative-by ws at (first-word stands)
+alternative-are {ws} {at} (some l) good stands =
+    let are = fields-are l good stands in
+    let long = are .behind in
+    alternative-by ws at (first-word (stands-same (latex-words l) stands))
+    ∙ chars-are (are .alternative) (at + (length (wordsOf (ifFlag T.latex) (some l)) - length (l .alternative))) (omega (arith, are .alternative .size-is, stands .end-is, long))

@@ -5,4 +5,6 @@ pub mod list;
 pub mod paint;
 pub mod paint_words;
 pub mod rows;
+pub mod shown;
+pub mod text;
 pub mod text_words;

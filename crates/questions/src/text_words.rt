@@ -1,8 +1,10 @@
 // Places of a text's fields, in the words of a table.
+use drawing::Span;
 ghost use mathlib.Core.Path.{_≡_};
-ghost use Prim.Native.Nat.{_<_};
+ghost use Prim.Native.Nat.{_<_, _≤_};
 ghost use lib.ListN.{length};
-ghost use Rattle.questions.specs.TextQuestion.{FieldsHere, LatexHere, stringEnd, fontEnd, alternativeAt, latexEnd};
+ghost use Rattle.drawing.specs.Limits.{lengthLimit};
+ghost use Rattle.questions.specs.TextQuestion.{FieldsHere, LatexHere, stringEnd, fontEnd, alternativeAt, latexEnd, charsAt, alternativeFrom};
 
 // The place behind a string.
 fn string_end(words: &[u32], at: usize) -> usize
@@ -40,4 +42,29 @@ pub fn latex_end(words: &[u32], at: usize) -> usize
         return string_end(words, alternative_at(words, at + 1));
     }
     at + 1
+}
+
+// The chars of a string.
+pub fn chars_at(words: &[u32], at: usize) -> Span
+    requires { ⌜ (at < length (now words)) × (length (now words) ≤ lengthLimit) ⌝ }
+    ensures { λ r. ⌜ r ≡ charsAt (now (words .entry)) at ⌝ }
+{
+    Span {
+        start: (at + 1) as u32,
+        length: words[at],
+    }
+}
+
+// The chars of the alternative, if there are LaTeX fields.
+pub fn alternative_chars(words: &[u32], at: usize) -> Span
+    requires { ⌜ LatexHere (now words) at × (length (now words) ≤ lengthLimit) ⌝ }
+    ensures { λ r. ⌜ r ≡ alternativeFrom (now (words .entry)) at ⌝ }
+{
+    if words[at] == 1 {
+        return chars_at(words, alternative_at(words, at + 1));
+    }
+    Span {
+        start: 0,
+        length: 0,
+    }
 }
