@@ -2,7 +2,15 @@
 // answers are 01's; the definitions that the contracts cite are in crates/drawing/specs.
 ghost use Rattle.drawing.specs.Answers.{Reads, Checks, Writes};
 ghost use Rattle.questions.specs.Lists.{Lists};
+ghost use Rattle.questions.specs.PaintQuestion.{Paints};
+ghost use Rattle.questions.specs.TextQuestion.{Texts};
+ghost use mathlib.Core.Path.{_≡_};
+ghost use lib.ListN.{length};
+ghost use Rattle.drawing.specs.Questions.{shown};
 pub use drawing::Answer;
+pub use drawing::PaintAnswer;
+pub use drawing::TextAnswer;
+pub use drawing::Which;
 
 // Reads a file into a table: contents, a row of four words an object, and bodies. Number 0 with the file's length and the counts of rows and words;
 // 1 to 13 with the offset of the field at fault; 14 or 15 with the counts needed, where there is no room. Memory changes only with number 0.
@@ -33,4 +41,26 @@ pub fn list(contents: &[u32], bodies: &[u32], label: &[u16], entries: &mut [u32]
     ensures { λ r. ⌜ Lists (now (contents .entry)) (now (bodies .entry)) (now (label .entry)) (now (entries .entry)) r (now (entries .exit)) ⌝ }
 {
     questions::list::list(contents, bodies, label, entries)
+}
+
+// The line, fill or text paint of a row's object: a plain paint, or a gradient of two with its integer. Refused with 16 where there is no such table, 6
+// where there is no such row, 7 where its object has no such paint.
+pub fn paint(contents: &[u32], bodies: &[u32], row: u32, which: Which) -> PaintAnswer
+    ensures { λ r. ⌜ Paints (now (contents .entry)) (now (bodies .entry)) row which r ⌝ }
+{
+    questions::paint::paint(contents, bodies, row, which)
+}
+
+// Where the chars of a text row's LaTeX alternative and of its text stand in the bodies; numbers as for a paint, and with them all places are 0.
+pub fn text(contents: &[u32], bodies: &[u32], row: u32) -> TextAnswer
+    ensures { λ r. ⌜ Texts (now (contents .entry)) (now (bodies .entry)) row r ⌝ }
+{
+    questions::text::text(contents, bodies, row)
+}
+
+// Of two runs of chars, the one to show: the alternative if it has a char, otherwise the plain text. It is that very run.
+pub fn shown<'a>(alternative: &'a [u32], plain: &'a [u32]) -> &'a [u32]
+    ensures { λ r. ⌜ r ≡ shown (length (now (alternative .entry))) (alternative .entry) (plain .entry) ⌝ }
+{
+    questions::shown::shown(alternative, plain)
 }

@@ -9,3 +9,13 @@ pub mod CharLaws
 pub mod EndLaws
 pub mod LabelLaws
 pub mod ListLaws
+pub mod Places
+pub mod PaintQuestion
+pub mod PaintPlaceLaws
+pub mod PaintWordLaws
+pub mod RowQuestions
+pub mod TextQuestion
+pub mod TextPlaceLaws
+pub mod TextWordLaws
+pub mod PaintQuestionLaws
+pub mod TextQuestionLaws

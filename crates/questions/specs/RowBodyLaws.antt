@@ -206,7 +206,7 @@ spelled-append (f ∷ fs) gs =
     ap (λ l. here ++ l) (spelled-append fs gs) ∙ sym (append-assoc here (spelled fs) (spelled gs))
 
 -- One part and then another.
-pair-words : {A B : Type 0} (f : Layout A) (g : Layout B) (a : A) (b : B) → wordsOf (f & g) (a, b) ≡ wordsOf f a ++ wordsOf g b
+pub pair-words : {A B : Type 0} (f : Layout A) (g : Layout B) (a : A) (b : B) → wordsOf (f & g) (a, b) ≡ wordsOf f a ++ wordsOf g b
 pair-words f g a b = spelled-append (fields (f .format) a) (fields (g .format) b)
 
 pub leaf-words : (v : ℕ) (l : Leaf) (d : String) → leafWords v l d ≡ wordsOf (told (pathCase v) (otherCases v) (leafLetter l)) l ++ wordsOf (objectEnd v) d

@@ -1,0 +1,75 @@
+-- A question about a part of a row's object: a table that was checked, and a row of it.
+use mathlib.Core.Path.{_≡_, refl, sym, ap, _∙_}
+use mathlib.Core.Option.{Option, none, some}
+use Prim.Native.Nat.{ℕ, _^_, _<_, _≤_}
+use native.Mathlib.Omega.{arith}
+use mathlib.Core.List.{List}
+use lib.ListN.{getD, getElem?}
+use Rattle.format.specs.Digits.{Below}
+use Rattle.drawing.specs.declared.Answer.{Answer}
+use Rattle.drawing.specs.Object.{Object}
+use Rattle.drawing.specs.Drawing.{Drawing, outer}
+use Rattle.drawing.specs.TableDrawing.{drawingOfTable}
+use Rattle.drawing.specs.Order.{objectsOf}
+use Rattle.drawing.specs.Answers.{rowsOf, checkFrom, Checks}
+use Rattle.drawing.specs.Questions.{Found, refusal, orRefusal, partAt, partIn}
+use Rattle.laws.specs.TableLaws.{drawing-of-table}
+use Rattle.questions.specs.RowBodies.{RowBody}
+use Rattle.questions.specs.RowBodyLaws.{row-object, no-row, row-body}
+use Rattle.questions.specs.Rows.{HasRow}
+use Rattle.questions.specs.Entries.{TableHere}
+use Rattle.questions.specs.EntryLaws.{row-here}
+
+-- There is such a row, in a table of some version.
+pub record RowHere (contents bodies : List ℕ) (row : ℕ) : Type 0 where
+  pub version : ℕ
+  pub has : HasRow contents bodies version row
+
+-- The row's object, by which the question is answered.
+pub record Asked (contents bodies : List ℕ) (row : ℕ) : Type 0 where
+  pub d : Drawing
+  pub is : drawingOfTable contents bodies ≡ some d
+  pub object : Object
+  pub object-is : getElem? (objectsOf d) row ≡ some object
+  pub body : RowBody contents bodies (d .version) row object
+  pub here : RowHere contents bodies row
+
+pub asked-part : {A : Type 0} (has : Drawing → Object → Option A) {c bs : List ℕ} {row : ℕ} → (asked : Asked c bs row)
+    → partIn has (drawingOfTable c bs) row ≡ orRefusal 7 (has (asked .d) (asked .object))
+asked-part has {row = row} asked = ap (λ o. partIn has o row) (asked .is) ∙ ap (partAt (has (asked .d))) (asked .object-is)
+
+module _ {c bs : List ℕ} {a : Answer} (checks : Checks c bs a) (row : ℕ) where
+  pub no-table : {A : Type 0} (has : Drawing → Object → Option A) → (a .number ≡ 0 → ⊥) → partIn has (drawingOfTable c bs) row ≡ refusal 16
+  no-table has bad = by (drawingOfTable c bs) refl
+    where
+      by : (o : Option Drawing) → drawingOfTable c bs ≡ o → partIn has (drawingOfTable c bs) row ≡ refusal 16
+      by none is = ap (λ o. partIn has o row) is
+      by (some d) is = absurd (bad (ap (λ x. x .number) (checks .says ∙ ap checkFrom is)))
+
+  module _ (good : a .number ≡ 0) where
+    checked : (d : Drawing) × ((drawingOfTable c bs ≡ some d) × (a .rows ≡ rowsOf d))
+    checked = by (drawingOfTable c bs) refl
+      where
+        by : (o : Option Drawing) → drawingOfTable c bs ≡ o → (d : Drawing) × ((drawingOfTable c bs ≡ some d) × (a .rows ≡ rowsOf d))
+        by none is = let z : _≡_ {A = ℕ} 0 16 = sym good ∙ ap (λ x. x .number) (checks .says ∙ ap checkFrom is) in absurd (omega arith)
+        by (some d) is = (d, (is, ap (λ x. x .rows) (checks .says ∙ ap checkFrom is)))
+
+    pub no-such-row : {A : Type 0} (has : Drawing → Object → Option A) → a .rows ≤ row → partIn has (drawingOfTable c bs) row ≡ refusal 6
+    no-such-row has past =
+        let d = checked .0 in
+        ap (λ o. partIn has o row) (checked .1 .0) ∙ ap (partAt (has d)) (no-row d row (omega (arith, checked .1 .1, past)))
+
+    pub asked : Below (2 ^ 32) bs → row < a .rows → Asked c bs row
+    asked below inside =
+        let d = checked .0 in
+        let more : row < rowsOf d = omega (arith, checked .1 .1, inside) in
+        let is-table = drawing-of-table c bs below d .0 (checked .1 .0) in
+        let table : TableHere c bs (rowsOf d) (d .version) = record { d = d; is-table = is-table; rows-are = refl; version-is = refl } in
+        record {
+          d = d;
+          is = checked .1 .0;
+          object = getD (objectsOf d) row (outer d);
+          object-is = row-object d row more;
+          body = row-body c bs d is-table row more;
+          here = record { version = d .version; has = row-here table row more };
+        }
