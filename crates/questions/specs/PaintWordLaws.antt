@@ -96,7 +96,7 @@ plain-parts v (P.rgb r g b a) good =
 plain-parts v (P.cmyk c m y k a) good =
     let t = good .1 in (
       ap₂ {C = List ℕ} (λ x l. code "C" ∷ x ∷ l) (one-word c (t .0 .fits))
-      (ap₂ {C = List ℕ} (λ x l. x ∷ l) (one-word m (t .1 .0 .fits)) (three y k a (t .1 .1))),
+          (ap₂ {C = List ℕ} (λ x l. x ∷ l) (one-word m (t .1 .0 .fits)) (three y k a (t .1 .1))),
       (component-number c (t .0), component-number m (t .1 .0), component-number y (t .1 .1 .0), component-number k (t .1 .1 .1 .0), component-number a (t .1 .1 .1 .1)),
     )
 plain-parts v (P.grey g a) good = by (leb 4 v) refl
@@ -122,7 +122,7 @@ gradient-parts v f t n high good =
     let first = plain-parts v f (good .0 .1) in
     let second = plain-parts v t (good .1 .0 .1) in (
       pair-words (P.plainPaint v) (P.plainPaint v & last) f (t, n)
-      ∙ ap₂ _++_ (first .0) (pair-words (P.plainPaint v) last t n ∙ ap₂ (λ l w. l ++ (w ∷ [])) (second .0) (one-word n (good .1 .1 .fits))),
+          ∙ ap₂ _++_ (first .0) (pair-words (P.plainPaint v) last t n ∙ ap₂ (λ l w. l ++ (w ∷ [])) (second .0) (one-word n (good .1 .1 .fits))),
       (first .1, second .1),
     )
 
