@@ -2,7 +2,8 @@
 // is used are the caller's: each call takes both, and answers how much is used after it. And what the programs that run
 // cases have in common: the names of the cases, and the hash of lent memory.
 ghost use mathlib.Core.Path.{_≡_};
-ghost use Prim.Native.Nat.{_<_};
+ghost use mathlib.Core.List.{[], _∷_};
+ghost use Prim.Native.Nat.{_+_, _/_, _%_, _<_};
 ghost use Rattle.text_out.specs.Buffer.{InBuffer};
 use drawing::Answer;
 use libc::STDOUT_FILENO;
@@ -106,6 +107,7 @@ pub fn hash_step(sum: u64, word: u32) -> u64
 // The name of a case: four decimal digits.
 pub fn name_of(place: u32) -> [u8; 4]
     requires { ⌜ place < 10000 ⌝ }
+    ensures { λ r. ⌜ r ≡ (48 + place / 1000) ∷ (48 + place / 100 % 10) ∷ (48 + place / 10 % 10) ∷ (48 + place % 10) ∷ [] ⌝ }
 {
     [
         digit(place / 1000),
@@ -117,6 +119,7 @@ pub fn name_of(place: u32) -> [u8; 4]
 
 fn digit(value: u32) -> u8
     requires { ⌜ value < 10 ⌝ }
+    ensures { λ r. ⌜ r ≡ 48 + value ⌝ }
 {
     b'0' + value as u8
 }
