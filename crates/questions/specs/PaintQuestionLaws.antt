@@ -1,10 +1,10 @@
 -- The paints of a row's object.
-use mathlib.Core.Path.{_≡_, refl, sym, ap, ap₂, subst, _∙_}
-use mathlib.Core.Option.{Option, none, some}
-use Prim.Native.Nat.{ℕ, _+_, _^_, _<_, _≤_}
+use mathlib.Core.Path.{_≡_, refl, sym, ap, _∙_}
+use mathlib.Core.Option.{none, some}
+use Prim.Native.Nat.{ℕ, _+_, _^_, _<_}
 use native.Mathlib.Omega.{arith}
-use mathlib.Core.List.{List, [], _∷_, _++_, append-assoc}
-use lib.ListN.{length, getD, length-append}
+use mathlib.Core.List.{List, _++_}
+use lib.ListN.{length}
 use Rattle.format.specs.Digits.{digits}
 use Rattle.format.specs.Alternative.{told}
 use Rattle.drawing.specs.declared.PaintAnswer.{PaintAnswer}
@@ -27,8 +27,8 @@ use Rattle.questions.specs.RowBodyLaws.{leaf-words, path-words, text-wor
 use Rattle.questions.specs.Places.{Stands, stands-same, stands-first}
 use Rattle.questions.specs.PaintQuestion.{paintAt, paintEnd, PaintHere}
 use Rattle.questions.specs.PaintWordLaws.{PaintIs, paint-is, behind-paint}
-use Rattle.questions.specs.TextQuestion.{fontEnd, latexEnd, paintPlace, LatexHere}
-use Rattle.questions.specs.TextWordLaws.{font-inside, behind-font, LatexIs, latex-here, behind-latex}
+use Rattle.questions.specs.TextQuestion.{fontEnd, paintPlace, LatexHere}
+use Rattle.questions.specs.TextWordLaws.{font-inside, behind-font, latex-here, behind-latex}
 
 module _ (c bs : List ℕ) (v r : ℕ) where
   -- A leaf's words before its end stand where its row says.

@@ -1,15 +1,15 @@
 -- A good paint's words, and what stands where they stand.
 use mathlib.Core.Path.{_≡_, refl, sym, ap, ap₂, subst, _∙_}
 use mathlib.Core.Bool.{Bool, true, false, not, cond, _&&_}
-use Prim.Native.Nat.{ℕ, _+_, _/_, _%_, _^_, _<_, _≤_}
+use Prim.Native.Nat.{ℕ, _+_, _/_, _%_, _^_}
 use Prim.Native.Char.{code}
 use native.Mathlib.Nat.{add-zero}
 use native.Mathlib.Omega.{arith}
 use mathlib.Core.List.{List, [], _∷_, _++_}
 use lib.ListN.{length, drop, getD}
-use lib.Dec.{T, eqb, leb}
+use lib.Dec.{T, leb}
 use lib.Seq.{getD-drop}
-use lib.Ieee.{Float, nan, inf, fin, binary32, ofBits, ofInt, isNan, le, lt, nanBits}
+use lib.Ieee.{Float, nan, inf, fin, binary32, ofBits, ofInt, isNan, le, lt}
 use lib.Ieee.Bits.{nanBits-is}
 use lib.IntN.{pos}
 use Rattle.format.specs.Kind.{Allowed}
@@ -24,7 +24,7 @@ use Rattle.laws.specs.WalkComplete.{one-word}
 use Rattle.questions.specs.RowBodyLaws.{pair-words}
 use Rattle.questions.specs.Places.{Stands, stands-same, stands-first, stands-next, stands-at, first-word, first-inside}
 use Rattle.questions.specs.PaintQuestion.{plainOf, plainSize, plainAt, plainEnd, Number, Numbers, PlainHere, paintAt, paintEnd, lastAt, GradientHere, PaintHere}
-use Rattle.questions.specs.PaintPlaceLaws.{plain-begins, plain-lettered, end-lettered, paint-lettered, paint-to, paint-plain, paint-to-plain}
+use Rattle.questions.specs.PaintPlaceLaws.{plain-begins, end-lettered, paint-lettered, paint-to, paint-plain, paint-to-plain}
 
 -- ---- components are numbers
 
@@ -96,7 +96,7 @@ plain-parts v (P.rgb r g b a) good =
 plain-parts v (P.cmyk c m y k a) good =
     let t = good .1 in (
       ap₂ {C = List ℕ} (λ x l. code "C" ∷ x ∷ l) (one-word c (t .0 .fits))
-      (ap₂ {C = List ℕ} (λ x l. x ∷ l) (one-word m (t .1 .0 .fits)) (three y k a (t .1 .1))),
+          (ap₂ {C = List ℕ} (λ x l. x ∷ l) (one-word m (t .1 .0 .fits)) (three y k a (t .1 .1))),
       (component-number c (t .0), component-number m (t .1 .0), component-number y (t .1 .1 .0), component-number k (t .1 .1 .1 .0), component-number a (t .1 .1 .1 .1)),
     )
 plain-parts v (P.grey g a) good = by (leb 4 v) refl
@@ -122,7 +122,7 @@ gradient-parts v f t n high good =
     let first = plain-parts v f (good .0 .1) in
     let second = plain-parts v t (good .1 .0 .1) in (
       pair-words (P.plainPaint v) (P.plainPaint v & last) f (t, n)
-      ∙ ap₂ _++_ (first .0) (pair-words (P.plainPaint v) last t n ∙ ap₂ (λ l w. l ++ (w ∷ [])) (second .0) (one-word n (good .1 .1 .fits))),
+          ∙ ap₂ _++_ (first .0) (pair-words (P.plainPaint v) last t n ∙ ap₂ (λ l w. l ++ (w ∷ [])) (second .0) (one-word n (good .1 .1 .fits))),
       (first .1, second .1),
     )
 

@@ -1,10 +1,10 @@
 -- The chars of a row's object, if it is a text.
-use mathlib.Core.Path.{_≡_, refl, sym, ap, ap₂, subst, _∙_}
+use mathlib.Core.Path.{_≡_, refl, ap, ap₂, _∙_}
 use mathlib.Core.Option.{Option, none, some, Option·map}
-use Prim.Native.Nat.{ℕ, _+_, _-_, _<_, _≤_}
+use Prim.Native.Nat.{ℕ, _+_, _-_, _≤_}
 use native.Mathlib.Omega.{arith}
 use mathlib.Core.List.{List, _++_}
-use lib.ListN.{length, getD, length-append}
+use lib.ListN.{length, length-append}
 use Rattle.drawing.specs.declared.TextAnswer.{TextAnswer}
 use Rattle.drawing.specs.Limits.{lengthLimit}
 use Rattle.drawing.specs.String.{String, string}
@@ -14,10 +14,10 @@ use Rattle.drawing.specs.Text as T
 use Rattle.drawing.specs.Object.{path, text, bitmap, Object, leaf, group}
 use Rattle.drawing.specs.ObjectId.{textOf}
 use Rattle.drawing.specs.Table.{wordsOf, kindIn, startIn}
-use Rattle.drawing.specs.Questions.{part, orRefusal, leafPart, span, alternativeSpan, textSpan, textValue}
+use Rattle.drawing.specs.Questions.{orRefusal, leafPart, alternativeSpan, textSpan, textValue}
 use Rattle.questions.specs.RowBodies.{RowBody}
 use Rattle.questions.specs.RowBodyLaws.{text-words, string-words}
-use Rattle.questions.specs.Places.{Stands, stands-first}
+use Rattle.questions.specs.Places.{stands-first}
 use Rattle.questions.specs.PaintQuestion.{paintEnd}
 use Rattle.questions.specs.PaintWordLaws.{behind-paint}
 use Rattle.questions.specs.PaintQuestionLaws.{textEnd, text-good, font-stands, latex-stands, paint-stands, text-painted}
