@@ -16,5 +16,6 @@ pub mod RowQuestions
 pub mod TextQuestion
 pub mod TextPlaceLaws
 pub mod TextWordLaws
+pub mod TextBodyLaws
 pub mod PaintQuestionLaws
 pub mod TextQuestionLaws
