@@ -17,5 +17,6 @@ pub mod RowQuestions
 pub mod TextQuestion
 pub mod TextPlaceLaws
 pub mod TextWordLaws
+pub mod TextBodyLaws
 pub mod PaintQuestionLaws
 pub mod TextQuestionLaws

@@ -1,15 +1,15 @@
 -- A good paint's words, and what stands where they stand.
 use mathlib.Core.Path.{_≡_, refl, sym, ap, ap₂, subst, _∙_}
 use mathlib.Core.Bool.{Bool, true, false, not, cond, _&&_}
-use Prim.Native.Nat.{ℕ, _+_, _/_, _%_, _^_, _<_, _≤_}
+use Prim.Native.Nat.{ℕ, _+_, _/_, _%_, _^_}
 use Prim.Native.Char.{code}
 use native.Mathlib.Nat.{add-zero}
 use native.Mathlib.Omega.{arith}
 use mathlib.Core.List.{List, [], _∷_, _++_}
 use lib.ListN.{length, drop, getD}
-use lib.Dec.{T, eqb, leb}
+use lib.Dec.{T, leb}
 use lib.Seq.{getD-drop}
-use lib.Ieee.{Float, nan, inf, fin, binary32, ofBits, ofInt, isNan, le, lt, nanBits}
+use lib.Ieee.{Float, nan, inf, fin, binary32, ofBits, ofInt, isNan, le, lt}
 use lib.Ieee.Bits.{nanBits-is}
 use lib.IntN.{pos}
 use Rattle.format.specs.Kind.{Allowed}
@@ -24,7 +24,7 @@ use Rattle.laws.specs.WalkComplete.{one-word}
 use Rattle.questions.specs.RowBodyLaws.{pair-words}
 use Rattle.questions.specs.Places.{Stands, stands-same, stands-first, stands-next, stands-at, first-word, first-inside}
 use Rattle.questions.specs.PaintQuestion.{plainOf, plainSize, plainAt, plainEnd, Number, Numbers, PlainHere, paintAt, paintEnd, lastAt, GradientHere, PaintHere}
-use Rattle.questions.specs.PaintPlaceLaws.{plain-begins, plain-lettered, end-lettered, paint-lettered, paint-to, paint-plain, paint-to-plain}
+use Rattle.questions.specs.PaintPlaceLaws.{plain-begins, end-lettered, paint-lettered, paint-to, paint-plain, paint-to-plain}
 
 -- ---- components are numbers
 
@@ -103,7 +103,7 @@ plain-parts v (P.grey g a) good = by (leb 4 v) refl
   where
     by : (t : Bool) → leb 4 v ≡ t → (wordsOf (P.plainPaint v) (P.grey g a) ≡ plainWords (P.grey g a)) × Numbers (P.grey g a)
     by true e = let t = (rw e at good) .1 in (rw e (ap (λ l. code "Y" ∷ l) (two g a t)), (component-number g (t .0), component-number a (t .1)))
-    by false e = let k : P.transparent ≡ P.grey g a = (rw e at good) .0 in absurd (let n : _≡_ {A = ℕ} 0 1 = cc in omega arith)
+    by false e = absurd (omega (arith, ap P.plainLetter ((rw e at good) .0)))
 plain-parts v (P.hsb h s b a) good = by (leb 4 v) refl
   where
     by : (t : Bool) → leb 4 v ≡ t → (wordsOf (P.plainPaint v) (P.hsb h s b a) ≡ plainWords (P.hsb h s b a)) × Numbers (P.hsb h s b a)
@@ -112,7 +112,7 @@ plain-parts v (P.hsb h s b a) good = by (leb 4 v) refl
           rw (e, e) (ap₂ {C = List ℕ} (λ x l. code "S" ∷ x ∷ l) (one-word h (t .0 .fits)) (three s b a (t .1))),
           (hue-number h (t .0), component-number s (t .1 .0), component-number b (t .1 .1 .0), component-number a (t .1 .1 .1)),
         )
-    by false e = let k : P.transparent ≡ P.hsb h s b a = (rw e at good) .0 in absurd (let n : _≡_ {A = ℕ} 0 1 = cc in omega arith)
+    by false e = absurd (omega (arith, ap P.plainLetter ((rw e at good) .0)))
 
 -- A good paint's words, too, and two good plain paints inside a gradient.
 gradient-parts : (v : ℕ) (f t : P.Plain) (n high : ℕ) → (P.plainPaint v & P.plainPaint v & field (integerIn 0 high)) .Good (f, (t, n))
@@ -147,8 +147,8 @@ paint-good v (P.plain (P.grey g a)) good = by (leb 4 v) (leb 3 v) refl refl
     by true u e d =
         let t = (rw e at (good .1)) .1 .1 in
         (rw e (ap (λ l. code "Y" ∷ l) (two g a t)), (component-number g (t .0), component-number a (t .1)))
-    by false true e d = let k : P.transparent ≡ P.grey g a = (rw (e, d) at (good .1)) .1 .0 in absurd (let n : _≡_ {A = ℕ} 0 1 = cc in omega arith)
-    by false false e d = let k : P.transparent ≡ P.grey g a = (rw (e, d) at (good .1)) .1 .0 in absurd (let n : _≡_ {A = ℕ} 0 1 = cc in omega arith)
+    by false true e d = absurd (omega (arith, ap P.plainLetter ((rw (e, d) at (good .1)) .1 .0)))
+    by false false e d = absurd (omega (arith, ap P.plainLetter ((rw (e, d) at (good .1)) .1 .0)))
 paint-good v (P.plain (P.hsb h s b a)) good = by (leb 4 v) (leb 3 v) refl refl
   where
     by : (t u : Bool) → leb 4 v ≡ t → leb 3 v ≡ u → (wordsOf (P.paint v) (P.plain (P.hsb h s b a)) ≡ plainWords (P.hsb h s b a)) × Numbers (P.hsb h s b a)
@@ -157,8 +157,8 @@ paint-good v (P.plain (P.hsb h s b a)) good = by (leb 4 v) (leb 3 v) refl refl
           rw (e, e) (ap₂ {C = List ℕ} (λ x l. code "S" ∷ x ∷ l) (one-word h (t .0 .fits)) (three s b a (t .1))),
           (hue-number h (t .0), component-number s (t .1 .0), component-number b (t .1 .1 .0), component-number a (t .1 .1 .1)),
         )
-    by false true e d = let k : P.transparent ≡ P.hsb h s b a = (rw (e, d) at (good .1)) .1 .0 in absurd (let n : _≡_ {A = ℕ} 0 1 = cc in omega arith)
-    by false false e d = let k : P.transparent ≡ P.hsb h s b a = (rw (e, d) at (good .1)) .1 .0 in absurd (let n : _≡_ {A = ℕ} 0 1 = cc in omega arith)
+    by false true e d = absurd (omega (arith, ap P.plainLetter ((rw (e, d) at (good .1)) .1 .0)))
+    by false false e d = absurd (omega (arith, ap P.plainLetter ((rw (e, d) at (good .1)) .1 .0)))
 paint-good v (P.linear f t d) good = by (leb 4 v) refl
   where
     by : (t′ : Bool) → leb 4 v ≡ t′ → (wordsOf (P.paint v) (P.linear f t d) ≡ paintWords (P.linear f t d)) × (Numbers f × Numbers t)

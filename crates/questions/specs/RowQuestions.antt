@@ -12,7 +12,7 @@ use Rattle.drawing.specs.Drawing.{Drawing, outer}
 use Rattle.drawing.specs.TableDrawing.{drawingOfTable}
 use Rattle.drawing.specs.Order.{objectsOf}
 use Rattle.drawing.specs.Answers.{rowsOf, checkFrom, Checks}
-use Rattle.drawing.specs.Questions.{Found, refusal, orRefusal, partAt, partIn}
+use Rattle.drawing.specs.Questions.{refusal, orRefusal, partAt, partIn}
 use Rattle.laws.specs.TableLaws.{drawing-of-table}
 use Rattle.questions.specs.RowBodies.{RowBody}
 use Rattle.questions.specs.RowBodyLaws.{row-object, no-row, row-body}

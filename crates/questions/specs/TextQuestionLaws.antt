@@ -1,12 +1,11 @@
 -- The chars of a row's object, if it is a text.
-use mathlib.Core.Path.{_≡_, refl, sym, ap, ap₂, subst, _∙_}
+use mathlib.Core.Path.{_≡_, refl, ap, ap₂, _∙_}
 use mathlib.Core.Option.{Option, none, some, Option·map}
-use Prim.Native.Nat.{ℕ, _+_, _-_, _<_, _≤_}
+use Prim.Native.Nat.{ℕ, _+_, _-_}
 use native.Mathlib.Omega.{arith}
 use mathlib.Core.List.{List, _++_}
-use lib.ListN.{length, getD, length-append}
+use lib.ListN.{length, length-append}
 use Rattle.drawing.specs.declared.TextAnswer.{TextAnswer}
-use Rattle.drawing.specs.Limits.{lengthLimit}
 use Rattle.drawing.specs.String.{String, string}
 use Rattle.drawing.specs.Choices.{ifFlag}
 use Rattle.drawing.specs.Paint as P
@@ -14,15 +13,14 @@ use Rattle.drawing.specs.Text as T
 use Rattle.drawing.specs.Object.{path, text, bitmap, Object, leaf, group}
 use Rattle.drawing.specs.ObjectId.{textOf}
 use Rattle.drawing.specs.Table.{wordsOf, kindIn, startIn}
-use Rattle.drawing.specs.Questions.{part, orRefusal, leafPart, span, alternativeSpan, textSpan, textValue}
+use Rattle.drawing.specs.Questions.{orRefusal, leafPart, alternativeSpan, textSpan, textValue}
 use Rattle.questions.specs.RowBodies.{RowBody}
 use Rattle.questions.specs.RowBodyLaws.{text-words, string-words}
-use Rattle.questions.specs.Places.{Stands, stands-first}
+use Rattle.questions.specs.Places.{stands-first}
 use Rattle.questions.specs.PaintQuestion.{paintEnd}
-use Rattle.questions.specs.PaintWordLaws.{behind-paint}
-use Rattle.questions.specs.PaintQuestionLaws.{textEnd, text-good, font-stands, latex-stands, paint-stands, text-painted}
-use Rattle.questions.specs.TextQuestion.{fontEnd, paintPlace, TextHere, charsAt, alternativeFrom, noText}
-use Rattle.questions.specs.TextWordLaws.{StringIs, string-is, font-end, alternativeIn, chars-are, alternative-are}
+use Rattle.questions.specs.TextBodyLaws.{of-text, text-good, font-stands, latex-stands, chars-there}
+use Rattle.questions.specs.TextQuestion.{fontEnd, paintPlace, charsAt, alternativeFrom, noText}
+use Rattle.questions.specs.TextWordLaws.{font-end, alternativeIn, chars-are, alternative-are}
 
 same-alternative : (start : ℕ) (t : T.Text) (o : Option T.Latex) → alternativeIn (start + length (wordsOf T.font (T.fontOf t))) o ≡ alternativeSpan start t o
 same-alternative start t none = refl
@@ -30,11 +28,6 @@ same-alternative start t (some l) = refl
 
 module _ (c bs : List ℕ) (v r : ℕ) where
   module _ (t : T.Text) (d : String) (row : RowBody c bs v r (leaf (text t) d)) where
-    chars : StringIs bs (paintEnd bs (paintPlace bs (startIn c r))) (textEnd c bs v r t d row) (t .text)
-    chars =
-        string-is 1 (t .text) (text-good c bs v r t d row .1 .1 .1)
-        (behind-paint v (t .paint) (wordsOf (string 1) (t .text)) (text-good c bs v r t d row .1 .1 .0) (paint-stands c bs v r t d row))
-
     text-span : charsAt bs (paintEnd bs (paintPlace bs (startIn c r))) ≡ textSpan v (startIn c r) t
     text-span =
         let F = wordsOf T.font (T.fontOf t) in
@@ -43,7 +36,7 @@ module _ (c bs : List ℕ) (v r : ℕ) where
         let S = wordsOf (string 1) (t .text) in
         let all = ap length (text-words v t) ∙ length-append F (L ++ (P ++ S)) in
         let last = ap length (string-words 1 (t .text) (text-good c bs v r t d row .1 .1 .1)) in
-        chars-are chars (startIn c r + (length (wordsOf (T.text v) t) - length (t .text))) (omega (arith, all, length-append L (P ++ S), length-append P S, last))
+        chars-are (chars-there c bs v r t d row) (startIn c r + (length (wordsOf (T.text v) t) - length (t .text))) (omega (arith, all, length-append L (P ++ S), length-append P S, last))
 
     alternative-span : alternativeFrom bs (fontEnd bs (startIn c r)) ≡ alternativeSpan (startIn c r) t (t .latex)
     alternative-span =
@@ -59,20 +52,10 @@ module _ (c bs : List ℕ) (v r : ℕ) where
   -- A text's chars are found.
   pub text-answered : (o : Object) → RowBody c bs v r o → kindIn c r ≡ 3
       → record { number = 0; alternative = alternativeFrom bs (fontEnd bs (startIn c r)); text = charsAt bs (paintEnd bs (paintPlace bs (startIn c r))) } ≡ answered o
-  text-answered (leaf (path p) d) row kind = absurd (omega (arith, row .kind-is))
-  text-answered (leaf (text t) d) row kind =
-      ap₂ (λ a s. record { number = 0; alternative = a; text = s }) (alternative-span t d row) (text-span t d row)
-  text-answered (leaf (bitmap b) d) row kind = absurd (omega (arith, row .kind-is))
-  text-answered (group os d) row kind = absurd (omega (arith, row .kind-is))
-
-  -- Its fields are there.
-  pub text-here : (o : Object) → RowBody c bs v r o → kindIn c r ≡ 3 → length bs ≤ lengthLimit → TextHere bs (startIn c r)
-  text-here (leaf (path p) d) row kind short = absurd (omega (arith, row .kind-is))
-  text-here (leaf (text t) d) row kind short =
-      let it = text-painted c bs v r (leaf (text t) d) row kind in
-      record { short = short; font = it .font; latex = it .latex; paint = it .painted .here; text = chars t d row .inside }
-  text-here (leaf (bitmap b) d) row kind short = absurd (omega (arith, row .kind-is))
-  text-here (group os d) row kind short = absurd (omega (arith, row .kind-is))
+  text-answered =
+      of-text c bs v r
+      (λ o. record { number = 0; alternative = alternativeFrom bs (fontEnd bs (startIn c r)); text = charsAt bs (paintEnd bs (paintPlace bs (startIn c r))) } ≡ answered o)
+      (λ t d row. ap₂ (λ a s. record { number = 0; alternative = a; text = s }) (alternative-span t d row) (text-span t d row))
 
   pub no-text-answered : (o : Object) → RowBody c bs v r o → (kindIn c r ≡ 3 → ⊥) → noText 7 ≡ answered o
   no-text-answered (leaf (path p) d) row other = refl

@@ -1,4 +1,5 @@
 use Rattle.questions.specs.PaintQuestionLaws.{no-paint, no-path, no-text, paint-answered, line-painted, fill-painted, text-painted}
+use Rattle.questions.specs.TextBodyLaws.{text-here}
 use Rattle.questions.specs.TextQuestion.{LatexHere, latexEnd}
 use Rattle.questions.specs.PaintQuestion.{PaintHere}
 use mathlib.Core.Path.{refl, sym, ap, subst, _∙_}
@@ -70,15 +71,15 @@ returns-3 c = λ v o row. no-paint (c .before .before .before .before .before .b
 
 -- src/paint.rt:30:36
 paint-end-requires : tie.Need-paint-end-requires
-paint-end-requires c κs = fill-painted (c .before .before .before .before .before .before .before .args .contents .now) (c .before .before .before .before .before .before .before .args .words .now) (c .before .before .before .before .before .before .before .pre .version) (c .before .before .before .before .before .before .before .args .row) (c .before .before .before .before .before .before .before .pre .has .object) (c .before .before .before .before .before .before .before .pre .has .body) (c .if2 .left) .0 .here
+paint-end-requires c κs = line-painted (c .before .before .before .before .before .before .before .args .contents .now) (c .before .before .before .before .before .before .before .args .words .now) (c .before .before .before .before .before .before .before .pre .version) (c .before .before .before .before .before .before .before .args .row) (c .before .before .before .before .before .before .before .pre .has .object) (c .before .before .before .before .before .before .before .pre .has .body) (c .if2 .left) .here
 
 -- src/paint.rt:30:13
 paint-at-requires-2 : tie.Need-paint-at-requires-2
-paint-at-requires-2 c κs = subst (PaintHere (c .before .before .before .before .before .before .before .before .args .words .now)) (sym (c .paint-end .ensures)) (fill-painted (c .before .before .before .before .before .before .before .before .args .contents .now) (c .before .before .before .before .before .before .before .before .args .words .now) (c .before .before .before .before .before .before .before .before .pre .version) (c .before .before .before .before .before .before .before .before .args .row) (c .before .before .before .before .before .before .before .before .pre .has .object) (c .before .before .before .before .before .before .before .before .pre .has .body) (c .before .if2 .left) .1 .here)
+paint-at-requires-2 c κs = subst (PaintHere (c .before .before .before .before .before .before .before .before .args .words .now)) (sym (c .paint-end .ensures)) (fill-painted (c .before .before .before .before .before .before .before .before .args .contents .now) (c .before .before .before .before .before .before .before .before .args .words .now) (c .before .before .before .before .before .before .before .before .pre .version) (c .before .before .before .before .before .before .before .before .args .row) (c .before .before .before .before .before .before .before .before .pre .has .object) (c .before .before .before .before .before .before .before .before .pre .has .body) (c .before .if2 .left) .here)
 
 -- src/paint.rt:30:13
 returns-4 : tie.Need-returns-4
-returns-4 c = λ v o row. paint-answered (c .before .before .before .before .before .before .before .before .before .args .contents .now) (c .before .before .before .before .before .before .before .before .before .args .words .now) v (c .before .before .before .before .before .before .before .before .before .args .row) o (c .before .before .before .enum-told2 .given .1) (c .before .paint-end .ensures) (fill-painted (c .before .before .before .before .before .before .before .before .before .args .contents .now) (c .before .before .before .before .before .before .before .before .before .args .words .now) v (c .before .before .before .before .before .before .before .before .before .args .row) o row (c .before .before .if2 .left) .1) (c .paint-at2 .ensures)
+returns-4 c = λ v o row. paint-answered (c .before .before .before .before .before .before .before .before .before .args .contents .now) (c .before .before .before .before .before .before .before .before .before .args .words .now) v (c .before .before .before .before .before .before .before .before .before .args .row) o (c .before .before .before .enum-told2 .given .1) (c .before .paint-end .ensures) (fill-painted (c .before .before .before .before .before .before .before .before .before .args .contents .now) (c .before .before .before .before .before .before .before .before .before .args .words .now) v (c .before .before .before .before .before .before .before .before .before .args .row) o row (c .before .before .if2 .left)) (c .paint-at2 .ensures)
 
 -- src/paint.rt:33:16
 enum-told-3 : tie.Need-enum-told-3
@@ -90,19 +91,19 @@ returns-5 c = λ v o row. no-paint (c .before .before .before .before .before .b
 
 -- src/paint.rt:36:53
 font-end-requires : tie.Need-font-end-requires
-font-end-requires c κs = text-painted (c .before .before .before .before .before .before .before .args .contents .now) (c .before .before .before .before .before .before .before .args .words .now) (c .before .before .before .before .before .before .before .pre .version) (c .before .before .before .before .before .before .before .args .row) (c .before .before .before .before .before .before .before .pre .has .object) (c .before .before .before .before .before .before .before .pre .has .body) (c .if3 .left) .font
+font-end-requires c κs = text-here (c .before .before .before .before .before .before .before .args .contents .now) (c .before .before .before .before .before .before .before .args .words .now) (c .before .before .before .before .before .before .before .pre .version) (c .before .before .before .before .before .before .before .args .row) (c .before .before .before .before .before .before .before .pre .has .object) (c .before .before .before .before .before .before .before .pre .has .body) (c .if3 .left) (c .before .before .before .before .before .before .before .pre .has .short) .font
 
 -- src/paint.rt:36:36
 latex-end-requires : tie.Need-latex-end-requires
-latex-end-requires c κs = subst (LatexHere (c .before .before .before .before .before .before .before .before .args .words .now)) (sym (c .font-end .ensures)) (text-painted (c .before .before .before .before .before .before .before .before .args .contents .now) (c .before .before .before .before .before .before .before .before .args .words .now) (c .before .before .before .before .before .before .before .before .pre .version) (c .before .before .before .before .before .before .before .before .args .row) (c .before .before .before .before .before .before .before .before .pre .has .object) (c .before .before .before .before .before .before .before .before .pre .has .body) (c .before .if3 .left) .latex)
+latex-end-requires c κs = subst (LatexHere (c .before .before .before .before .before .before .before .before .args .words .now)) (sym (c .font-end .ensures)) (text-here (c .before .before .before .before .before .before .before .before .args .contents .now) (c .before .before .before .before .before .before .before .before .args .words .now) (c .before .before .before .before .before .before .before .before .pre .version) (c .before .before .before .before .before .before .before .before .args .row) (c .before .before .before .before .before .before .before .before .pre .has .object) (c .before .before .before .before .before .before .before .before .pre .has .body) (c .before .if3 .left) (c .before .before .before .before .before .before .before .before .pre .has .short) .latex)
 
 -- src/paint.rt:36:13
 paint-at-requires-3 : tie.Need-paint-at-requires-3
-paint-at-requires-3 c κs = subst (PaintHere (c .before .before .before .before .before .before .before .before .before .args .words .now)) (sym (c .latex-end .ensures ∙ ap (latexEnd (c .before .before .before .before .before .before .before .before .before .args .words .now)) (c .before .font-end .ensures))) (text-painted (c .before .before .before .before .before .before .before .before .before .args .contents .now) (c .before .before .before .before .before .before .before .before .before .args .words .now) (c .before .before .before .before .before .before .before .before .before .pre .version) (c .before .before .before .before .before .before .before .before .before .args .row) (c .before .before .before .before .before .before .before .before .before .pre .has .object) (c .before .before .before .before .before .before .before .before .before .pre .has .body) (c .before .before .if3 .left) .painted .here)
+paint-at-requires-3 c κs = subst (PaintHere (c .before .before .before .before .before .before .before .before .before .args .words .now)) (sym (c .latex-end .ensures ∙ ap (latexEnd (c .before .before .before .before .before .before .before .before .before .args .words .now)) (c .before .font-end .ensures))) (text-here (c .before .before .before .before .before .before .before .before .before .args .contents .now) (c .before .before .before .before .before .before .before .before .before .args .words .now) (c .before .before .before .before .before .before .before .before .before .pre .version) (c .before .before .before .before .before .before .before .before .before .args .row) (c .before .before .before .before .before .before .before .before .before .pre .has .object) (c .before .before .before .before .before .before .before .before .before .pre .has .body) (c .before .before .if3 .left) (c .before .before .before .before .before .before .before .before .before .pre .has .short) .paint)
 
 -- src/paint.rt:36:13
 returns-6 : tie.Need-returns-6
-returns-6 c = λ v o row. paint-answered (c .before .before .before .before .before .before .before .before .before .before .args .contents .now) (c .before .before .before .before .before .before .before .before .before .before .args .words .now) v (c .before .before .before .before .before .before .before .before .before .before .args .row) o (c .before .before .before .before .enum-told3 .given .1) (c .before .latex-end .ensures ∙ ap (latexEnd (c .before .before .before .before .before .before .before .before .before .before .args .words .now)) (c .before .before .font-end .ensures)) (text-painted (c .before .before .before .before .before .before .before .before .before .before .args .contents .now) (c .before .before .before .before .before .before .before .before .before .before .args .words .now) v (c .before .before .before .before .before .before .before .before .before .before .args .row) o row (c .before .before .before .if3 .left) .painted) (c .paint-at3 .ensures)
+returns-6 c = λ v o row. paint-answered (c .before .before .before .before .before .before .before .before .before .before .args .contents .now) (c .before .before .before .before .before .before .before .before .before .before .args .words .now) v (c .before .before .before .before .before .before .before .before .before .before .args .row) o (c .before .before .before .before .enum-told3 .given .1) (c .before .latex-end .ensures ∙ ap (latexEnd (c .before .before .before .before .before .before .before .before .before .before .args .words .now)) (c .before .before .font-end .ensures)) (text-painted (c .before .before .before .before .before .before .before .before .before .before .args .contents .now) (c .before .before .before .before .before .before .before .before .before .before .args .words .now) v (c .before .before .before .before .before .before .before .before .before .before .args .row) o row (c .before .before .before .if3 .left)) (c .paint-at3 .ensures)
 
 pub paint-of-spec : {M : Type 1} → statement M
 paint-of-spec =

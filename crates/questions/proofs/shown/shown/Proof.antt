@@ -8,7 +8,7 @@ use Rattle.questions.proofs.shown.shown.Lts as lts
 
 -- src/shown.rt:11:9
 returns : tie.Need-returns
-returns c = simp (lt-ltb 0 (length (c .before .args .alternative .now)) (c .if1 .taken))
+returns c = simp (lt-ltb 0 (length (c .before .args .alternative .now)) (omega (arith, c .if1 .taken)))
 
 -- src/shown.rt:7:1
 returns-2 : tie.Need-returns-2

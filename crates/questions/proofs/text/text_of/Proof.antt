@@ -1,4 +1,5 @@
-use Rattle.questions.specs.TextQuestionLaws.{text-here, text-answered, no-text-answered}
+use Rattle.questions.specs.TextQuestionLaws.{text-answered, no-text-answered}
+use Rattle.questions.specs.TextBodyLaws.{text-here}
 use Rattle.questions.specs.TextQuestion.{LatexHere, latexEnd, charsAt, alternativeFrom}
 use Rattle.questions.specs.PaintQuestion.{PaintHere, paintEnd}
 use lib.ListN.{length}

@@ -1,7 +1,6 @@
 use Rattle.questions.specs.TextQuestion.{stringEnd}
 use mathlib.Core.Path.{refl}
 use borrow.Author.Needs.{needs}
-use borrow.Author.Needs.{needs}
 use Rattle.questions.proofs.text_words.string_end.Statement.{statement}
 use Rattle.questions.proofs.text_words.string_end.Tie as tie
 use Rattle.questions.proofs.text_words.string_end.Reads as reads
