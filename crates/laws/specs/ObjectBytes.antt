@@ -78,7 +78,3 @@ pub file-bytes : (d : Drawing)
 file-bytes d =
     ap (λ l. digits 256 6 jdr ++ (digits 256 4 3 ++ (digits 256 6 (versionZero + d .version) ++ l)))
     (spelled-append (fields (settings (d .version) .format) (d .settings)) _)
-
--- The settings begin at byte 16.
-pub head-bytes-length : (v : ℕ) → length (digits 256 6 jdr ++ (digits 256 4 3 ++ digits 256 6 (versionZero + v))) ≡ 16
-head-bytes-length v = refl

@@ -70,7 +70,7 @@ table-complete d a =
 
 -- ---- what has a drawing is its table
 
-pub outer-holds : (v : ℕ) (p : Place) → Below (2 ^ 32) (p .bodies) → Holding (GroupMet v (depthLimit - 1) 0 p) (walkOuter v p)
+outer-holds : (v : ℕ) (p : Place) → Below (2 ^ 32) (p .bodies) → Holding (GroupMet v (depthLimit - 1) 0 p) (walkOuter v p)
 outer-holds v p b =
     holding-onward (RowMet p) (GroupMet v (depthLimit - 1) 0 p) (nextRow p) (λ row q. walkGroup v (λ r. walkObject v (depthLimit - 1) (p .row) r) 0 row q) (next-row-holds p)
     (λ row q h.

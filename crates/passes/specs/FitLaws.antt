@@ -49,9 +49,6 @@ module _ (space to far count : ℕ) (positive : 0 < far) (inside : to ≤ space)
       let l : space - to < (space - to) / far * far + far = Nat.lt-div-mul-add positive in
       record { most = h; room = λ some. omega arith; full = λ less. omega arith }
 
-pub fitting-none : (space to far count : ℕ) → 0 < far → space < to → Fitting space to far count 0
-fitting-none space to far count positive beyond = record { most = omega arith; room = λ some. absurd (omega arith); full = λ less. omega arith }
-
 -- ---- what is stored
 
 module _ (base w other u : ℕ) (us m : List ℕ) (count at to fit : ℕ) (fitting : Fitting (length m) to u count fit) where

@@ -8,12 +8,12 @@ pub mod Lists
 pub mod CharLaws
 pub mod EndLaws
 pub mod LabelLaws
-pub mod ListLaws
 pub mod Places
 pub mod PaintQuestion
 pub mod PaintPlaceLaws
 pub mod PaintWordLaws
 pub mod RowQuestions
+pub mod ListLaws
 pub mod TextQuestion
 pub mod TextPlaceLaws
 pub mod TextWordLaws

@@ -26,6 +26,7 @@ use Rattle.questions.specs.RowBodyLaws.{row-body, version-word, end-word
 use Rattle.questions.specs.LabelLaws.{end-good}
 use Rattle.questions.specs.Entries.{TableHere, Enters}
 use Rattle.questions.specs.EntryLaws.{rows-small, same-drawing}
+use Rattle.questions.specs.RowQuestions.{checked-drawing}
 use Rattle.questions.specs.Lists.{Listed, Lists}
 
 -- The entries of a drawing's table are listed.
@@ -59,11 +60,9 @@ module _ {c bs : List ℕ} (below : Below (2 ^ 32) bs) {a : Answer} (checks : Ch
       rows-are : a .rows ≡ rowsOf d
 
     here : Here
-    here = by (drawingOfTable c bs) refl
-      where
-        by : (o : Option Drawing) → drawingOfTable c bs ≡ o → Here
-        by none is = let z : _≡_ {A = ℕ} 0 16 = sym on ∙ ap (λ x. x .number) (checks .says ∙ ap checkFrom is) in absurd (omega arith)
-        by (some d) is = record { d = d; is = is; table = drawing-of-table c bs below d .0 is; rows-are = ap (λ x. x .rows) (checks .says ∙ ap checkFrom is) }
+    here =
+        let h = checked-drawing checks on in
+        record { d = h .0; is = h .1 .0; table = drawing-of-table c bs below (h .0) .0 (h .1 .0); rows-are = h .1 .1 }
 
     pub table-here : TableHere c bs (a .rows) (getD bs 0 0)
     table-here = record { d = here .d; is-table = here .table; rows-are = here .rows-are; version-is = version-word c bs (here .d) (here .table) }

@@ -36,7 +36,7 @@ use Rattle.drawing.specs.Table.{wordsOf, leafWords, groupWords, rows, bodies, b
 use Rattle.drawing.specs.Order.{preorder, preorderAll, objectsOf}
 use Rattle.drawing.specs.Answers.{rowsOf}
 use Rattle.laws.specs.ObjectGood.{good-leaf, good-group, no-group}
-use Rattle.laws.specs.FileGood.{file-parts, minor-small}
+use Rattle.laws.specs.FileGood.{file-parts}
 use Rattle.laws.specs.WalkComplete.{AllGood, one-word}
 use Rattle.laws.specs.OrderLaws.{rows-preorder, contents-length, shift}
 use Rattle.questions.specs.RowBodies.{ownWords, objectKind, OwnGood, RowBody}
@@ -71,9 +71,6 @@ no-objects d = let l = rows-preorder (outer d) in drop-of-length-le (objectsOf d
 -- The first word of the bodies.
 pub version-word : (c bs : List ℕ) (d : Drawing) → IsTable c bs d → getD bs 0 0 ≡ d .version
 version-word c bs d t = ap (λ l. getD l 0 0) (t .bodies-are)
-
-pub version-range : (c bs : List ℕ) (d : Drawing) → IsTable c bs d → d .version ≤ 4
-version-range c bs d t = minor-small (d .version) (file-parts d (t .acceptable .good) .version)
 
 -- ---- rows and bodies
 

@@ -38,6 +38,14 @@ pub asked-part : {A : Type 0} (has : Drawing → Object → Option A) {c bs : Li
     → partIn has (drawingOfTable c bs) row ≡ orRefusal 7 (has (asked .d) (asked .object))
 asked-part has {row = row} asked = ap (λ o. partIn has o row) (asked .is) ∙ ap (partAt (has (asked .d))) (asked .object-is)
 
+-- A table that is checked with 0 has a drawing, and its rows are counted.
+pub checked-drawing : {c bs : List ℕ} {a : Answer} → Checks c bs a → a .number ≡ 0 → (d : Drawing) × ((drawingOfTable c bs ≡ some d) × (a .rows ≡ rowsOf d))
+checked-drawing {c} {bs} {a} checks good = by (drawingOfTable c bs) refl
+  where
+    by : (o : Option Drawing) → drawingOfTable c bs ≡ o → (d : Drawing) × ((drawingOfTable c bs ≡ some d) × (a .rows ≡ rowsOf d))
+    by none is = let z : _≡_ {A = ℕ} 0 16 = sym good ∙ ap (λ x. x .number) (checks .says ∙ ap checkFrom is) in absurd (omega arith)
+    by (some d) is = (d, (is, ap (λ x. x .rows) (checks .says ∙ ap checkFrom is)))
+
 module _ {c bs : List ℕ} {a : Answer} (checks : Checks c bs a) (row : ℕ) where
   pub no-table : {A : Type 0} (has : Drawing → Object → Option A) → (a .number ≡ 0 → ⊥) → partIn has (drawingOfTable c bs) row ≡ refusal 16
   no-table has bad = by (drawingOfTable c bs) refl
@@ -48,11 +56,7 @@ module _ {c bs : List ℕ} {a : Answer} (checks : Checks c bs a) (row : ℕ) whe
 
   module _ (good : a .number ≡ 0) where
     checked : (d : Drawing) × ((drawingOfTable c bs ≡ some d) × (a .rows ≡ rowsOf d))
-    checked = by (drawingOfTable c bs) refl
-      where
-        by : (o : Option Drawing) → drawingOfTable c bs ≡ o → (d : Drawing) × ((drawingOfTable c bs ≡ some d) × (a .rows ≡ rowsOf d))
-        by none is = let z : _≡_ {A = ℕ} 0 16 = sym good ∙ ap (λ x. x .number) (checks .says ∙ ap checkFrom is) in absurd (omega arith)
-        by (some d) is = (d, (is, ap (λ x. x .rows) (checks .says ∙ ap checkFrom is)))
+    checked = checked-drawing checks good
 
     pub no-such-row : {A : Type 0} (has : Drawing → Object → Option A) → a .rows ≤ row → partIn has (drawingOfTable c bs) row ≡ refusal 6
     no-such-row has past =

@@ -51,10 +51,6 @@ members-begin stands there =
       few = omega (arith, stands .few);
     }
 
--- The members, by another name of their number.
-pub same-number : (v deep parent row : ℕ) {cs ws m m′ : List ℕ} {p : Pass} {s : Walked} {n k : ℕ} → n ≡ k → WalksMany v deep parent n row cs ws m m′ p s → WalksMany v deep parent k row cs ws m m′ p s
-same-number v deep parent row {cs} {ws} {m} {m′} {p} {s} same walks = subst (λ n. WalksMany v deep parent n row cs ws m m′ p s) same walks
-
 module _ (v deep parent : ℕ) (cs ws : List ℕ) (row : ℕ) (p : Pass) (there : 4 * row + 4 ≤ length cs) (n : ℕ) (number-is : n ≡ getD (drop (p .at) ws) (getD cs (4 * row + 2) 0 - p .at) 0) where
   abbrev each : Place → Walk Object
   each place = walkObject v deep row place
