@@ -3,8 +3,8 @@ use mathlib.Core.Path.{_≡_, refl, sym, ap, ap₂, _∙_}
 use Prim.Native.Nat.{ℕ, zero, suc, _+_, _-_, _*_, _/_, _%_, _^_, _<_, _≤_}
 use native.Mathlib.Nat as Nat
 use native.Mathlib.Omega.{arith}
-use mathlib.Core.List.{List, _++_, append-assoc}
-use lib.ListN.{length, take, drop, length-append, length-drop}
+use mathlib.Core.List.{List, [], _∷_, _++_, append-assoc, append-nil}
+use lib.ListN.{length, take, drop, getD, length-append, length-drop}
 use lib.Seq.{drop-drop}
 use lib.Arith.{digits-div}
 use Rattle.format.specs.Digits.{Below, number, digits}
@@ -19,6 +19,21 @@ use Rattle.format.specs.Pass.{Route, splice, put, Passed, onward, pass}
 use Rattle.format.specs.SpliceLaws.{splice-nil, splice-behind}
 use Rattle.format.specs.PassLaws.{Placed, read-placed, length-put, put-fits, put-short}
 use Rattle.format.specs.Recode.{recoded, length-recoded}
+
+-- ---- the values
+
+-- The numbers of n fields of w units each, one behind the other.
+abbrev pub valuesAt : (base w : ℕ) → List ℕ → (n at : ℕ) → List ℕ
+valuesAt base w us zero at = []
+valuesAt base w us (suc n) at = number base (take w (drop at us)) ∷ valuesAt base w us n (at + w)
+
+-- Each of them by its place.
+pub value-at : (base w : ℕ) (us : List ℕ) (n at i : ℕ) → i < n → getD (valuesAt base w us n at) i 0 ≡ number base (take w (drop (at + i * w) us))
+value-at base w us zero at i less = absurd (omega arith)
+value-at base w us (suc n) at zero less = let here : at + 0 * w ≡ at = omega arith in rw here
+value-at base w us (suc n) at (suc i) less =
+    let there : at + w + i * w ≡ at + suc i * w = omega arith in
+    value-at base w us n (at + w) i (omega arith) ∙ ap (λ a. number base (take w (drop a us))) there
 
 -- ---- the memory
 
@@ -102,92 +117,105 @@ pub record Plain (R : Route) (us : List ℕ) (w u bound : ℕ) (k : Kind) : Type
   pub reads : (at : ℕ) → at + w ≤ length us → number (R .source .base) (take w (drop at us)) < bound
       → fixed (R .source) .read k (drop at us) ≡ found (number (R .source .base) (take w (drop at us))) (drop (at + w) us)
 
-module _ {S A : Type 0} (R : Route) (us : List ℕ) (w u bound : ℕ) (kind : S → Kind) (next : S → ℕ → S) (plain : (s : S) → Plain R us w u bound (kind s)) (K : Script A) where
-  abbrev many : ℕ → S → Script A
-  many n s = scriptMany (λ t k. ask (kind t) k) next n s (λ as′. K)
+module _ {S A : Type 0} (R : Route) (us : List ℕ) (w u bound : ℕ) (kind : S → Kind) (next : S → ℕ → S) (plain : (s : S) → Plain R us w u bound (kind s)) where
+  abbrev many : ℕ → S → (List ℕ → Script A) → Script A
+  many n s K = scriptMany (λ t k. ask (kind t) k) next n s K
 
   -- The first m of m + n fields are passed, and n are to come, by some state.
-  record Begun (m n : ℕ) (s : S) (at to : ℕ) (l : List ℕ) : Type 0 where
+  record Begun (m n : ℕ) (s : S) (K : List ℕ → Script A) (at to : ℕ) (l : List ℕ) : Type 0 where
     state : S
-    says : pass R us (many (m + n) s) at to l ≡ pass R us (many n state) (at + m * w) (to + m * u) (putMany (R .source .base) w (R .target .base) u us m at to l)
+    says : pass R us (many (m + n) s K) at to l
+        ≡ pass R us (many n state (λ as′. K (valuesAt (R .source .base) w us m at ++ as′))) (at + m * w) (to + m * u) (putMany (R .source .base) w (R .target .base) u us m at to l)
 
-  begun : (m n : ℕ) (s : S) (at to : ℕ) (l : List ℕ) → at + m * w ≤ length us → ((i : ℕ) → i < m → number (R .source .base) (take w (drop (at + i * w) us)) < bound) → Begun m n s at to l
+  begun : (m n : ℕ) (s : S) (K : List ℕ → Script A) (at to : ℕ) (l : List ℕ) → at + m * w ≤ length us
+      → ((i : ℕ) → i < m → number (R .source .base) (take w (drop (at + i * w) us)) < bound) → Begun m n s K at to l
   unfolding putMany
-  begun zero n s at to l h small = record { state = s; says = rw (Nat.zero-add, Nat.zero-mul, Nat.zero-mul, Nat.add-zero, Nat.add-zero) }
-  begun (suc m) n s at to l h small =
+  begun zero n s K at to l h small = record { state = s; says = rw (Nat.zero-add, Nat.zero-mul, Nat.zero-mul, Nat.add-zero, Nat.add-zero) }
+  begun (suc m) n s K at to l h small =
       let v = number (R .source .base) (take w (drop at us)) in
       let here : at + 0 * w ≡ at = omega arith in
       let this : v < bound = rw here at (small 0 (omega arith)) in
       let p = plain s in
       let shift : (i : ℕ) → at + suc i * w ≡ at + w + i * w = λ i. omega arith in
-      let more = begun m n (next s v) (at + w) (to + u) (put to (digits (R .target .base) u v) l) (omega arith) (λ i less. rw shift at (small (suc i) (omega arith))) in
+      let more =
+      begun m n (next s v) (λ as′. K (v ∷ as′)) (at + w) (to + u) (put to (digits (R .target .base) u v) l) (omega arith)
+      (λ i less. rw shift at (small (suc i) (omega arith)))
+      in
       record {
         state = more .state;
         says =
-            ap (λ k. pass R us (many k s) at to l) (Nat.suc-add m n)
-            ∙ ap (λ o. onward R at o (λ v. pass R us (many (m + n) (next s v)) (at + R .source .width (kind s .shape)) (to + R .target .width (kind s .shape)) (put to (spellFixed (R .target) (kind s) v) l))) (p .reads at (omega arith) this)
-            ∙ ap₂ (λ a b. pass R us (many (m + n) (next s v)) (at + a) (to + b) (put to (digits (R .target .base) b v) l)) (p .wide) (p .far)
+            ap (λ k. pass R us (many k s K) at to l) (Nat.suc-add m n)
+            ∙ ap (λ o. onward R at o (λ v. pass R us (many (m + n) (next s v) (λ as′. K (v ∷ as′))) (at + R .source .width (kind s .shape)) (to + R .target .width (kind s .shape)) (put to (spellFixed (R .target) (kind s) v) l))) (p .reads at (omega arith) this)
+            ∙ ap₂ (λ a b. pass R us (many (m + n) (next s v) (λ as′. K (v ∷ as′))) (at + a) (to + b) (put to (digits (R .target .base) b v) l)) (p .wide) (p .far)
             ∙ more .says
-            ∙ ap₂ (λ a b. pass R us (many n (more .state)) a b (putMany (R .source .base) w (R .target .base) u us (suc m) at to l)) (sym (shift m)) (omega arith);
+            ∙ ap₂ (λ a b. pass R us (many n (more .state) (λ as′. K (v ∷ (valuesAt (R .source .base) w us m (at + w) ++ as′)))) a b (putMany (R .source .base) w (R .target .base) u us (suc m) at to l)) (sym (shift m)) (omega arith);
       }
 
-  -- All of them are there.
-  pub run-through : (n : ℕ) (s : S) (at to : ℕ) (l : List ℕ) → at + n * w ≤ length us → ((i : ℕ) → i < n → number (R .source .base) (take w (drop (at + i * w) us)) < bound)
-      → pass R us (scriptMany (λ t k. ask (kind t) k) next n s (λ as′. K)) at to l ≡ pass R us K (at + n * w) (to + n * u) (putMany (R .source .base) w (R .target .base) u us n at to l)
-  run-through n s at to l h small = rw Nat.add-zero at (begun n 0 s at to l h small .says)
+  -- All of them are there: what comes behind goes on by their values.
+  pub run-through : (n : ℕ) (s : S) (K : List ℕ → Script A) (at to : ℕ) (l : List ℕ) → at + n * w ≤ length us
+      → ((i : ℕ) → i < n → number (R .source .base) (take w (drop (at + i * w) us)) < bound)
+      → pass R us (scriptMany (λ t k. ask (kind t) k) next n s K) at to l
+      ≡ pass R us (K (valuesAt (R .source .base) w us n at)) (at + n * w) (to + n * u) (putMany (R .source .base) w (R .target .base) u us n at to l)
+  run-through n s K at to l h small =
+      ap (λ k. pass R us (many k s K) at to l) (sym (Nat.add-zero n))
+      ∙ begun n 0 s K at to l h small .says
+      ∙ ap (λ vs. pass R us (K vs) (at + n * w) (to + n * u) (putMany (R .source .base) w (R .target .base) u us n at to l)) (append-nil (valuesAt (R .source .base) w us n at))
 
   -- The first that does not fit is cut.
   pub run-cut : (missing : ℕ) → ((s : S) (at : ℕ) → length us - at < w → fixed (R .source) .read (kind s) (drop at us) ≡ refused missing (drop at us))
-      → (n : ℕ) (s : S) (at to : ℕ) (l : List ℕ) → 0 < w → at ≤ length us → length us - at < n * w → ((i : ℕ) → i < (length us - at) / w → number (R .source .base) (take w (drop (at + i * w) us)) < bound)
-      → pass R us (scriptMany (λ t k. ask (kind t) k) next n s (λ as′. K)) at to l ≡ R .refusal missing (at + (length us - at) / w * w)
-  run-cut missing cut n s at to l positive inside short small =
+      → (n : ℕ) (s : S) (K : List ℕ → Script A) (at to : ℕ) (l : List ℕ) → 0 < w → at ≤ length us → length us - at < n * w
+      → ((i : ℕ) → i < (length us - at) / w → number (R .source .base) (take w (drop (at + i * w) us)) < bound)
+      → pass R us (scriptMany (λ t k. ask (kind t) k) next n s K) at to l ≡ R .refusal missing (at + (length us - at) / w * w)
+  run-cut missing cut n s K at to l positive inside short small =
       let fits : (length us - at) / w * w ≤ length us - at = Nat.div-mul-le-self (length us - at) w in
       let left : length us - at < (length us - at) / w * w + w = Nat.lt-div-mul-add positive in
       let fewer : (length us - at) / w < n = Nat.div-lt-iff-lt-mul positive .1 short in
       cut-at ((length us - at) / w) (n - suc ((length us - at) / w)) (omega arith) (omega arith) (omega arith) small
     where
       cut-at : (m more : ℕ) → n ≡ m + suc more → at + m * w ≤ length us → length us - (at + m * w) < w → ((i : ℕ) → i < m → number (R .source .base) (take w (drop (at + i * w) us)) < bound)
-          → pass R us (many n s) at to l ≡ R .refusal missing (at + m * w)
+          → pass R us (many n s K) at to l ≡ R .refusal missing (at + m * w)
       cut-at m more e there short small =
-          let b = begun m (suc more) s at to l there small in
-          ap (λ k. pass R us (many k s) at to l) e
+          let b = begun m (suc more) s K at to l there small in
+          ap (λ k. pass R us (many k s K) at to l) e
           ∙ b .says
-          ∙ ap (λ o. onward R (at + m * w) o (λ v. pass R us (many more (next (b .state) v)) (at + m * w + R .source .width (kind (b .state) .shape)) (to + m * u + R .target .width (kind (b .state) .shape)) (put (to + m * u) (spellFixed (R .target) (kind (b .state)) v) (putMany (R .source .base) w (R .target .base) u us m at to l)))) (cut (b .state) (at + m * w) short)
+          ∙ ap (λ o. onward R (at + m * w) o (λ v. pass R us (many more (next (b .state) v) (λ as′. K (valuesAt (R .source .base) w us m at ++ (v ∷ as′)))) (at + m * w + R .source .width (kind (b .state) .shape)) (to + m * u + R .target .width (kind (b .state) .shape)) (put (to + m * u) (spellFixed (R .target) (kind (b .state)) v) (putMany (R .source .base) w (R .target .base) u us m at to l)))) (cut (b .state) (at + m * w) short)
 
 -- Where every refusal comes to the same, a run that is cut or has a bad number comes to it.
-module _ {S A : Type 0} (R : Route) (us : List ℕ) (kind : S → Kind) (next : S → ℕ → S) (K : Script A) (c : Passed) (same : (n at : ℕ) → R .refusal n at ≡ c) (w : ℕ) (wide : (s : S) → R .source .width (kind s .shape) ≡ w) where
-  abbrev again : ℕ → S → Script A
-  again n s = scriptMany (λ t k. ask (kind t) k) next n s (λ as′. K)
+module _ {S A : Type 0} (R : Route) (us : List ℕ) (kind : S → Kind) (next : S → ℕ → S) (c : Passed) (same : (n at : ℕ) → R .refusal n at ≡ c) (w : ℕ) (wide : (s : S) → R .source .width (kind s .shape) ≡ w) where
+  abbrev again : ℕ → S → (List ℕ → Script A) → Script A
+  again n s K = scriptMany (λ t k. ask (kind t) k) next n s K
 
   -- One field, and what is so of the rest.
-  one-more : (n : ℕ) (s : S) (at to : ℕ) (l : List ℕ)
-      → ((v : ℕ) (to′ : ℕ) (l′ : List ℕ) → at + w ≤ length us → pass R us (again n (next s v)) (at + w) to′ l′ ≡ c)
-      → at ≤ length us → pass R us (again (suc n) s) at to l ≡ c
-  one-more n s at to l more inside = by (fixed (R .source) .read (kind s) (drop at us)) (read-placed (R .source) (kind s) (drop at us))
+  one-more : (n : ℕ) (s : S) (K : List ℕ → Script A) (at to : ℕ) (l : List ℕ)
+      → ((v : ℕ) (to′ : ℕ) (l′ : List ℕ) → at + w ≤ length us → pass R us (again n (next s v) (λ as′. K (v ∷ as′))) (at + w) to′ l′ ≡ c)
+      → at ≤ length us → pass R us (again (suc n) s K) at to l ≡ c
+  one-more n s K at to l more inside = by (fixed (R .source) .read (kind s) (drop at us)) (read-placed (R .source) (kind s) (drop at us))
     where
       by : (o : Outcome ℕ) → Placed (R .source) (kind s) (drop at us) o
-          → onward R at o (λ v. pass R us (again n (next s v)) (at + R .source .width (kind s .shape)) (to + R .target .width (kind s .shape)) (put to (spellFixed (R .target) (kind s) v) l)) ≡ c
+          → onward R at o (λ v. pass R us (again n (next s v) (λ as′. K (v ∷ as′))) (at + R .source .width (kind s .shape)) (to + R .target .width (kind s .shape)) (put to (spellFixed (R .target) (kind s) v) l)) ≡ c
       by (found v rest) placed =
           let there : R .source .width (kind s .shape) ≤ length us - at = rw length-drop at (placed .0) in
           let e : R .source .width (kind s .shape) ≡ w = wide s in
-          ap (λ n′. pass R us (again n (next s v)) (at + n′) (to + R .target .width (kind s .shape)) (put to (spellFixed (R .target) (kind s) v) l)) e
+          ap (λ n′. pass R us (again n (next s v) (λ as′. K (v ∷ as′))) (at + n′) (to + R .target .width (kind s .shape)) (put to (spellFixed (R .target) (kind s) v) l)) e
           ∙ more v (to + R .target .width (kind s .shape)) (put to (spellFixed (R .target) (kind s) v) l) (omega arith)
       by (refused x place) placed = same x at
 
-  pub run-short : (n : ℕ) (s : S) (at to : ℕ) (l : List ℕ) → at ≤ length us → length us - at < n * w → pass R us (scriptMany (λ t k. ask (kind t) k) next n s (λ as′. K)) at to l ≡ c
-  run-short zero s at to l inside short = absurd (omega arith)
-  run-short (suc n) s at to l inside short = one-more n s at to l (λ v to′ l′ there. run-short n (next s v) (at + w) to′ l′ there (omega arith)) inside
+  pub run-short : (n : ℕ) (s : S) (K : List ℕ → Script A) (at to : ℕ) (l : List ℕ) → at ≤ length us → length us - at < n * w
+      → pass R us (scriptMany (λ t k. ask (kind t) k) next n s K) at to l ≡ c
+  run-short zero s K at to l inside short = absurd (omega arith)
+  run-short (suc n) s K at to l inside short =
+      one-more n s K at to l (λ v to′ l′ there. run-short n (next s v) (λ as′. K (v ∷ as′)) (at + w) to′ l′ there (omega arith)) inside
 
-  pub run-bad : (i n : ℕ) (s : S) (at to : ℕ) (l : List ℕ) → i < n → at ≤ length us
+  pub run-bad : (i n : ℕ) (s : S) (K : List ℕ → Script A) (at to : ℕ) (l : List ℕ) → i < n → at ≤ length us
       → ((s : S) → (x : ℕ) × (fixed (R .source) .read (kind s) (drop (at + i * w) us) ≡ refused x (drop (at + i * w) us)))
-      → pass R us (scriptMany (λ t k. ask (kind t) k) next n s (λ as′. K)) at to l ≡ c
-  run-bad i zero s at to l less inside bad = absurd (omega arith)
-  run-bad zero (suc n) s at to l less inside bad =
+      → pass R us (scriptMany (λ t k. ask (kind t) k) next n s K) at to l ≡ c
+  run-bad i zero s K at to l less inside bad = absurd (omega arith)
+  run-bad zero (suc n) s K at to l less inside bad =
       let here : at + 0 * w ≡ at = omega arith in
       let b = bad s in
       let r : fixed (R .source) .read (kind s) (drop at us) ≡ refused (b .0) (drop at us) = rw here at (b .1) in
-      ap (λ o. onward R at o (λ v. pass R us (again n (next s v)) (at + R .source .width (kind s .shape)) (to + R .target .width (kind s .shape)) (put to (spellFixed (R .target) (kind s) v) l))) r
+      ap (λ o. onward R at o (λ v. pass R us (again n (next s v) (λ as′. K (v ∷ as′))) (at + R .source .width (kind s .shape)) (to + R .target .width (kind s .shape)) (put to (spellFixed (R .target) (kind s) v) l))) r
       ∙ same (b .0) at
-  run-bad (suc i) (suc n) s at to l less inside bad =
+  run-bad (suc i) (suc n) s K at to l less inside bad =
       let shift : at + suc i * w ≡ at + w + i * w = omega arith in
-      one-more n s at to l (λ v to′ l′ there. run-bad i n (next s v) (at + w) to′ l′ (omega arith) there (λ t. rw shift at (bad t))) inside
+      one-more n s K at to l (λ v to′ l′ there. run-bad i n (next s v) (λ as′. K (v ∷ as′)) (at + w) to′ l′ (omega arith) there (λ t. rw shift at (bad t))) inside

@@ -11,12 +11,13 @@ ghost use Prim.Native.Nat.{_+_, _*_, _^_, _≤_, _<_};
 ghost use lib.ListN.{length};
 ghost use Rattle.drawing.specs.Text.{transformation};
 ghost use Rattle.passes.specs.Routes.{baseOf, widthOf, source, target};
-ghost use Rattle.parts.specs.Doubles.{doublesAt, putDoubles};
+ghost use Rattle.format.specs.RunLaws.{valuesAt};
+ghost use Rattle.parts.specs.Doubles.{putDoubles};
 ghost use Rattle.passes.specs.Carries.{Begins, Carries};
 
 fn transformation_at(file: &[u8], words: &[u32], reverse: bool, at: usize) -> [u64; 6]
     requires { ⌜ (at + 6 * widthOf reverse 8 ≤ length (source reverse (now file) (now words))) × (length (source reverse (now file) (now words)) < 2 ^ 40) ⌝ }
-    ensures { λ r. ⌜ r ≡ doublesAt (baseOf reverse) (widthOf reverse 8) (source reverse (now (file .entry)) (now (words .entry))) 6 at ⌝ }
+    ensures { λ r. ⌜ r ≡ valuesAt (baseOf reverse) (widthOf reverse 8) (source reverse (now (file .entry)) (now (words .entry))) 6 at ⌝ }
 {
     let wide = width(reverse, 8);
     let second = at + wide;

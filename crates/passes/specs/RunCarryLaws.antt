@@ -19,7 +19,7 @@ use Rattle.format.specs.Script.{Script, ask}
 use Rattle.format.specs.Format.{scriptMany}
 use Rattle.format.specs.Layout.{field, repeat}
 use Rattle.format.specs.Pass.{stopped, pass}
-use Rattle.format.specs.RunLaws.{putMany, Plain, run-through, run-cut, run-short, run-bad}
+use Rattle.format.specs.RunLaws.{valuesAt, putMany, Plain, run-through, run-cut, run-short, run-bad}
 use Rattle.drawing.specs.Fields as F
 use Rattle.drawing.specs.String.{chars}
 use Rattle.passes.specs.declared.Pass.{Pass}
@@ -62,9 +62,13 @@ any-plain false us bytes k a =
 words-hold : (bytes : ℕ) → isRun bytes ≡ true → (bytes ≡ 2 → ⊥) → (2 ^ 32) ^ ((bytes + 3) / 4) ≡ 256 ^ bytes
 words-hold bytes e wide = each-run (λ n. (n ≡ 2 → ⊥) → (2 ^ 32) ^ ((n + 3) / 4) ≡ 256 ^ n) bytes e (λ h. absurd (h refl)) (λ h. refl) (λ h. refl) wide
 
-module _ {S : Type 0} (bytes : ℕ) (run : isRun bytes ≡ true) (kind : S → Kind) (any : (s : S) → Any bytes (kind s)) (next : S → ℕ → S) (s : S) (count : ℕ) (us m m′ : List ℕ) (p r : Pass) (K : Script (Unit {0})) where
+module _ {S : Type 0} (bytes : ℕ) (run : isRun bytes ≡ true) (kind : S → Kind) (any : (s : S) → Any bytes (kind s)) (next : S → ℕ → S) (s : S) (count : ℕ) (us m m′ : List ℕ) (p r : Pass) (K : List ℕ → Script (Unit {0})) where
   abbrev many : Script (Unit {0})
-  many = scriptMany (λ t k. ask (kind t) k) next count s (λ as′. K)
+  many = scriptMany (λ t k. ask (kind t) k) next count s K
+
+  -- What comes behind the run, by the values that it then has.
+  abbrev rest : Bool → Script (Unit {0})
+  rest t = K (valuesAt (baseOf t) (widthOf t bytes) us count (p .at))
 
   -- In a file every run of bytes writes a value.
   small-bytes : Below 256 us → (at n : ℕ) → at + n * bytes ≤ length us → (i : ℕ) → i < n → number 256 (take bytes (drop (at + i * bytes) us)) < 256 ^ bytes
@@ -88,22 +92,22 @@ module _ {S : Type 0} (bytes : ℕ) (run : isRun bytes ≡ true) (kind : S → K
           let more : suc i * w ≤ n * w = Nat.mul-le-mul-right w less in
           rw (← words-hold bytes run (eqb-false bytes 2 e)) (field-below (2 ^ 32) us (at + i * w) w (omega arith) below)
 
-  short-runs : (t : Bool) → Below (baseOf t) us → p .at ≤ length us → RunShort t us p bytes count r → behind t us m p many ≡ behind t us m′ r K
+  short-runs : (t : Bool) → Below (baseOf t) us → p .at ≤ length us → RunShort t us p bytes count r → behind t us m p many ≡ behind t us m′ r (rest t)
   short-runs true below inside c =
       let w = run-width true bytes run .0 in
       behind-going true us m p many (c .going)
-      ∙ run-short toFile us kind next K (stopped 16 0) (λ n at. refl) ((bytes + 3) / 4) (λ s. source-width true (kind s) bytes (any s .sized)) count s (p .at) (p .to) m inside (Nat.div-lt-iff-lt-mul w .0 (c .fewer))
-      ∙ ap (λ q. behind true us m′ q K) (sym (c .stops))
+      ∙ run-short toFile us kind next (stopped 16 0) (λ n at. refl) ((bytes + 3) / 4) (λ s. source-width true (kind s) bytes (any s .sized)) count s K (p .at) (p .to) m inside (Nat.div-lt-iff-lt-mul w .0 (c .fewer))
+      ∙ ap (λ q. behind true us m′ q (rest true)) (sym (c .stops))
   short-runs false below inside c =
       let w = run-width false bytes run .0 in
       behind-going false us m p many (c .going)
-      ∙ run-cut toTable us bytes ((bytes + 3) / 4) (256 ^ bytes) kind next (λ s. any-plain false us bytes (kind s) (any s)) K 2
-      (λ s at h. read-cut 256 size 2 5 us at (kind s) (rw (any s .sized) h)) count s (p .at) (p .to) m w inside (Nat.div-lt-iff-lt-mul w .0 (c .fewer))
+      ∙ run-cut toTable us bytes ((bytes + 3) / 4) (256 ^ bytes) kind next (λ s. any-plain false us bytes (kind s) (any s)) 2
+      (λ s at h. read-cut 256 size 2 5 us at (kind s) (rw (any s .sized) h)) count s K (p .at) (p .to) m w inside (Nat.div-lt-iff-lt-mul w .0 (c .fewer))
       (small-bytes below (p .at) ((length us - p .at) / bytes) (fit-inside (length us) (p .at) bytes inside))
-      ∙ sym (behind-refusal false us m′ 2 (p .at + (length us - p .at) / bytes * bytes) K (omega arith))
-      ∙ ap (λ q. behind false us m′ q K) (sym (c .stops))
+      ∙ sym (behind-refusal false us m′ 2 (p .at + (length us - p .at) / bytes * bytes) (rest false) (omega arith))
+      ∙ ap (λ q. behind false us m′ q (rest false)) (sym (c .stops))
 
-  wide-runs : (t : Bool) → p .at ≤ length us → RunWide t us p bytes count r → behind t us m p many ≡ behind t us m′ r K
+  wide-runs : (t : Bool) → p .at ≤ length us → RunWide t us p bytes count r → behind t us m p many ≡ behind t us m′ r (rest t)
   wide-runs false inside c = absurd (false≢true (c .from-table))
   wide-runs true inside c =
       let i = c .wide .0 in
@@ -111,37 +115,37 @@ module _ {S : Type 0} (bytes : ℕ) (run : isRun bytes ≡ true) (kind : S → K
       let w : (bytes + 3) / 4 ≡ 1 = rw two in
       let one : p .at + i * ((bytes + 3) / 4) ≡ p .at + i = ap (λ n. p .at + i * n) w ∙ omega arith in
       behind-going true us m p many (c .going)
-      ∙ run-bad toFile us kind next K (stopped 16 0) (λ n at. refl) ((bytes + 3) / 4) (λ s. source-width true (kind s) bytes (any s .sized)) i count s (p .at) (p .to) m (c .wide .1) inside
+      ∙ run-bad toFile us kind next (stopped 16 0) (λ n at. refl) ((bytes + 3) / 4) (λ s. source-width true (kind s) bytes (any s .sized)) i count s K (p .at) (p .to) m (c .wide .1) inside
       (λ s.
       let sized : size (kind s .shape) ≡ 2 = any s .sized ∙ two in
       let large : values (kind s .shape) ≤ getD us (p .at + i) 0 = rw (any s .all, two) (c .wide .2) in
       let there : p .at + i + (size (kind s .shape) + 3) / 4 ≤ length us = rw sized (omega (arith, c .there, c .wide .1)) in
       let is : getD us (p .at + i) 0 ≡ number (2 ^ 32) (take ((size (kind s .shape) + 3) / 4) (drop (p .at + i) us)) = rw sized (sym (field-one (2 ^ 32) us (p .at + i) (omega (arith, c .there, c .wide .1)))) in
       (16, rw one (read-fault (2 ^ 32) (λ s. (size s + 3) / 4) 16 16 us (p .at + i) (kind s) (getD us (p .at + i) 0) there is 15 (rw (le-ltb (getD us (p .at + i) 0) (values (kind s .shape)) large)))))
-      ∙ ap (λ q. behind true us m′ q K) (sym (c .stops))
+      ∙ ap (λ q. behind true us m′ q (rest true)) (sym (c .stops))
 
-  ran-runs : (t : Bool) → Below (baseOf t) us → Ran t us m m′ p bytes count r → behind t us m p many ≡ behind t us m′ r K
+  ran-runs : (t : Bool) → Below (baseOf t) us → Ran t us m m′ p bytes count r → behind t us m p many ≡ behind t us m′ r (rest t)
   ran-runs t below c =
       let stored = putMany (baseOf t) (widthOf t bytes) (baseOf (not t)) (widthOf (not t) bytes) us count (p .at) (p .to) m in
       behind-going t us m p many (c .going)
       ∙ through t below c
-      ∙ ap (λ a. pass (route t) us K a (p .to + count * widthOf (not t) bytes) stored) (sym (c .at-is))
-      ∙ ap (λ b. pass (route t) us K (r .at) b stored) (sym (c .to-is))
-      ∙ ap (λ l. pass (route t) us K (r .at) (r .to) l) (sym (c .memory-is))
-      ∙ sym (behind-going t us m′ r K (c .on))
+      ∙ ap (λ a. pass (route t) us (rest t) a (p .to + count * widthOf (not t) bytes) stored) (sym (c .at-is))
+      ∙ ap (λ b. pass (route t) us (rest t) (r .at) b stored) (sym (c .to-is))
+      ∙ ap (λ l. pass (route t) us (rest t) (r .at) (r .to) l) (sym (c .memory-is))
+      ∙ sym (behind-going t us m′ r (rest t) (c .on))
     where
       through : (t : Bool) → Below (baseOf t) us → (c : Ran t us m m′ p bytes count r)
-          → pass (route t) us many (p .at) (p .to) m ≡ pass (route t) us K (p .at + count * widthOf t bytes) (p .to + count * widthOf (not t) bytes) (putMany (baseOf t) (widthOf t bytes) (baseOf (not t)) (widthOf (not t) bytes) us count (p .at) (p .to) m)
+          → pass (route t) us many (p .at) (p .to) m ≡ pass (route t) us (rest t) (p .at + count * widthOf t bytes) (p .to + count * widthOf (not t) bytes) (putMany (baseOf t) (widthOf t bytes) (baseOf (not t)) (widthOf (not t) bytes) us count (p .at) (p .to) m)
       through true below c =
-          run-through toFile us ((bytes + 3) / 4) bytes (256 ^ bytes) kind next (λ s. any-plain true us bytes (kind s) (any s)) K count s (p .at) (p .to) m (c .there) (small-words below (p .at) count (c .there) (c .small refl))
+          run-through toFile us ((bytes + 3) / 4) bytes (256 ^ bytes) kind next (λ s. any-plain true us bytes (kind s) (any s)) count s K (p .at) (p .to) m (c .there) (small-words below (p .at) count (c .there) (c .small refl))
       through false below c =
-          run-through toTable us bytes ((bytes + 3) / 4) (256 ^ bytes) kind next (λ s. any-plain false us bytes (kind s) (any s)) K count s (p .at) (p .to) m (c .there) (small-bytes below (p .at) count (c .there))
+          run-through toTable us bytes ((bytes + 3) / 4) (256 ^ bytes) kind next (λ s. any-plain false us bytes (kind s) (any s)) count s K (p .at) (p .to) m (c .there) (small-bytes below (p .at) count (c .there))
 
-  pub run-runs : (t : Bool) → p .at ≤ length us → Runs t bytes count us m m′ p r → behind t us m p many ≡ behind t us m′ r K
+  pub run-runs : (t : Bool) → p .at ≤ length us → Runs t bytes count us m m′ p r → behind t us m p many ≡ behind t us m′ r (rest t)
   run-runs t inside runs = by (runs .came)
     where
-      by : RunGone m m′ p r ⊎ (RunShort t us p bytes count r ⊎ (RunWide t us p bytes count r ⊎ Ran t us m m′ p bytes count r)) → behind t us m p many ≡ behind t us m′ r K
-      by (inl g) = behind-gone t us m m′ p many K (g .refused) ∙ ap (λ q. behind t us m′ q K) (sym (g .same))
+      by : RunGone m m′ p r ⊎ (RunShort t us p bytes count r ⊎ (RunWide t us p bytes count r ⊎ Ran t us m m′ p bytes count r)) → behind t us m p many ≡ behind t us m′ r (rest t)
+      by (inl g) = behind-gone t us m m′ p many (rest t) (g .refused) ∙ ap (λ q. behind t us m′ q (rest t)) (sym (g .same))
       by (inr (inl c)) = short-runs t (runs .below) inside c
       by (inr (inr (inl c))) = wide-runs t inside c
       by (inr (inr (inr c))) = ran-runs t (runs .below) c
@@ -154,7 +158,7 @@ module _ {t : Bool} {us m m′ : List ℕ} {p r : Pass} {count : ℕ} (inside : 
       record {
         carried =
             record {
-              runs = λ K. run-runs 2 refl (λ left. F.stringChar (eqb left 1)) (λ s. record { sized = refl; all = refl; faultless = λ v. refl }) (λ left c. left - 1) count count us m m′ p r K t inside runs;
+              runs = λ K. run-runs 2 refl (λ left. F.stringChar (eqb left 1)) (λ s. record { sized = refl; all = refl; faultless = λ v. refl }) (λ left c. left - 1) count count us m m′ p r (λ vs. K) t inside runs;
               ready = runs .ready;
               same-length = runs .same-length;
             };
@@ -165,7 +169,7 @@ module _ {t : Bool} {us m m′ : List ℕ} {p r : Pass} {count : ℕ} (inside : 
       record {
         carried =
             record {
-              runs = λ K. run-runs {S = Unit {0}} 4 refl (λ s. F.float) (λ s. record { sized = refl; all = refl; faultless = λ v. refl }) (λ s x. s) tt count us m m′ p r K t inside runs;
+              runs = λ K. run-runs {S = Unit {0}} 4 refl (λ s. F.float) (λ s. record { sized = refl; all = refl; faultless = λ v. refl }) (λ s x. s) tt count us m m′ p r (λ vs. K) t inside runs;
               ready = runs .ready;
               same-length = runs .same-length;
             };
@@ -176,7 +180,7 @@ module _ {t : Bool} {us m m′ : List ℕ} {p r : Pass} {count : ℕ} (inside : 
       record {
         carried =
             record {
-              runs = λ K. run-runs {S = Unit {0}} 8 refl (λ s. F.double) (λ s. record { sized = refl; all = refl; faultless = λ v. refl }) (λ s x. s) tt count us m m′ p r K t inside runs;
+              runs = λ K. run-runs {S = Unit {0}} 8 refl (λ s. F.double) (λ s. record { sized = refl; all = refl; faultless = λ v. refl }) (λ s x. s) tt count us m m′ p r (λ vs. K) t inside runs;
               ready = runs .ready;
               same-length = runs .same-length;
             };

@@ -2,23 +2,27 @@
 use mathlib.Core.Path.{_≡_, refl, sym, ap, _∙_}
 use mathlib.Core.Logic.{_⊎_, inl, inr}
 use mathlib.Core.Bool.{Bool, true, false, not}
-use Prim.Native.Nat.{ℕ, _+_, _-_, _*_, _/_, _^_, _<_, _≤_}
+use Prim.Native.Nat.{ℕ, _+_, _-_, _*_, _/_, _%_, _^_, _<_, _≤_}
 use native.Mathlib.Nat as Nat
 use native.Mathlib.Omega.{arith}
 use mathlib.Core.List.{List}
+use lib.Dec.{ltb}
 use lib.ListN.{length, getD}
+use borrow.Author.Count.{below-more}
+use borrow.Author.Tests.{ltb-true, ltb-false}
 use mir.Syntax.{w8, w32}
 use mir.Val.{Fits}
 use Rattle.format.specs.Digits.{Below}
 use Rattle.format.specs.LeafLaws.{known-below}
 use Rattle.format.specs.RunLaws.{putMany, length-many}
+use Rattle.drawing.specs.Limits.{lengthLimit}
 use Rattle.passes.specs.declared.Pass.{Pass}
 use Rattle.passes.specs.Routes.{baseOf, widthOf, source}
 use Rattle.passes.specs.Sizes.{isRun}
 use Rattle.passes.specs.FitLaws.{run-size}
 use Rattle.passes.specs.Passes.{Ready, refusalOf}
 use Rattle.passes.specs.TakeLaws.{width-bounds, refusal-ready}
-use Rattle.passes.specs.Runs.{SmallWords, RunGone, RunShort, RunWide, Ran, Runs}
+use Rattle.passes.specs.Runs.{Above, SmallWords, RunGone, RunShort, RunWide, Ran, Runs}
 
 pub run-width : (t : Bool) (size : ℕ) → isRun size ≡ true → (0 < widthOf t size) × (widthOf t size ≤ 8)
 run-width t size e = let s = run-size size e in width-bounds t size (s .0) (s .1)
@@ -132,14 +136,38 @@ module _ {t : Bool} {size count : ℕ} {us m₀ m₀′ : List ℕ} {p r : Pass}
 
 -- ---- from a table, the units are the words
 
+-- One word more is added up.
+pub above-more : (words : List ℕ) (from count sum : ℕ) → ((i : ℕ) → Fits w32 (getD words i 0)) → Above words from count sum
+    → Above words from (count + 1) (sum + getD words (from + count) 0 / 65536)
+above-more words from count sum fits above =
+    let w = getD words (from + count) 0 in
+    let whole : w ≡ 65536 * (w / 65536) + w % 65536 = sym (Nat.div-add-mod w 65536) in
+    let part : w % 65536 < 65536 = Nat.mod-lt w (omega arith) in
+    let small : w < 2 ^ 32 = fits (from + count) .fits in
+    let many = above .few in
+    record {
+      few = omega arith;
+      none = λ e. below-more (λ i. getD words (from + i) 0 < 65536) count (above .none (omega arith)) (omega arith);
+      some = λ positive. by (ltb 0 sum) refl positive;
+    }
+  where
+    by : (b : Bool) → ltb 0 sum ≡ b → 0 < sum + getD words (from + count) 0 / 65536 → (i : ℕ) × (i < count + 1) × (65536 ≤ getD words (from + i) 0)
+    by true e positive = let h = above .some (ltb-true 0 sum e) in (h .0, omega (arith, h .1), h .2)
+    by false e positive =
+        let zero = ltb-false 0 sum e in
+        let w = getD words (from + count) 0 in
+        let whole : w ≡ 65536 * (w / 65536) + w % 65536 = sym (Nat.div-add-mod w 65536) in
+        (count, omega arith, omega arith)
+
 -- The units of a source are its codec's, as the slices' rules say.
 pub source-below : (t : Bool) (file words : List ℕ) → ((i : ℕ) → Fits w8 (getD file i 0)) → ((i : ℕ) → Fits w32 (getD words i 0)) → Below (baseOf t) (source t file words)
 source-below true file words f w = known-below w32 words w
 source-below false file words f w = known-below w8 file f
 
 module _ (t : Bool) (file words : List ℕ) (at size count : ℕ) where
-  pub words-there : t ≡ true → at + count * widthOf t size ≤ length (source t file words) → at + count * ((size + 3) / 4) ≤ length words
-  words-there is h = rw is at h
+  pub words-there : t ≡ true → at + count * widthOf t size ≤ length (source t file words) → length (source t file words) ≤ lengthLimit
+      → (at + count * ((size + 3) / 4) ≤ length words) × (length words ≤ lengthLimit)
+  words-there is h short = (rw is at h, rw is at short)
 
   pub wide-there : (t ≡ true) × (size ≡ 2) × ((i : ℕ) × (i < count) × (65536 ≤ getD words (at + i) 0)) → (t ≡ true) × (size ≡ 2) × ((i : ℕ) × (i < count) × (65536 ≤ getD (source t file words) (at + i) 0))
   wide-there (is, two, wide) = (is, two, rw is wide)

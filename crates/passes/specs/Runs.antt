@@ -22,6 +22,12 @@ pub record AllChars (words : List ℕ) (from count : ℕ) (r : Bool) : Type 0 wh
   pub all : r ≡ true → (i : ℕ) → i < count → getD words (from + i) 0 < 65536
   pub not-all : r ≡ false → (i : ℕ) × (i < count) × (65536 ≤ getD words (from + i) 0)
 
+-- What is above a char in each of the first words of a run, added up.
+pub record Above (words : List ℕ) (from count sum : ℕ) : Type 0 where
+  pub few : sum ≤ count * 65535
+  pub none : sum ≡ 0 → (i : ℕ) → i < count → getD words (from + i) 0 < 65536
+  pub some : 0 < sum → (i : ℕ) × (i < count) × (65536 ≤ getD words (from + i) 0)
+
 -- Where the fields are chars, the words are.
 abbrev pub SmallWords : ℕ → List ℕ → (at count : ℕ) → Type 0
 SmallWords size words at count = size ≡ 2 → (i : ℕ) → i < count → getD words (at + i) 0 < 65536

@@ -13,6 +13,7 @@ ghost use mathlib.Core.Bool.{not, true};
 ghost use Prim.Native.Nat.{_+_, _*_, _/_, _^_, _<_, _≤_};
 ghost use lib.ListN.{length};
 ghost use Rattle.format.specs.RunLaws.{putMany};
+ghost use Rattle.drawing.specs.Limits.{lengthLimit};
 ghost use Rattle.passes.specs.Routes.{baseOf, widthOf, source, target};
 ghost use Rattle.passes.specs.Sizes.{isRun};
 ghost use Rattle.passes.specs.Passes.{Ready};
@@ -94,24 +95,23 @@ fn put_run(
     store_run(file, at, bodies, to, size, count);
 }
 
-// All of these words are chars.
+// All of these words are chars. What is above a char in each is added up, with no test for each, so that several words can be taken at a time.
 fn all_chars(words: &[u32], from: usize, count: usize) -> bool
-    requires { ⌜ from + count ≤ length (now words) ⌝ }
+    requires { ⌜ (from + count ≤ length (now words)) × (length (now words) ≤ lengthLimit) ⌝ }
     ensures { λ r. ⌜ AllChars (now (words .entry)) from count r ⌝ }
 {
     let mut i = 0;
+    let mut above = 0u32;
     while i < count {
-        if 65535 < words[from + i] {
-            return false;
-        }
+        above = above + words[from + i] / 65536;
         i = i + 1;
     }
-    true
+    above == 0
 }
 
 // A run of a table's words that holds one which its fields cannot have.
 fn has_wide(words: &[u32], reverse: bool, at: usize, size: usize, count: usize) -> bool
-    requires { ⌜ (isRun size ≡ true) × (reverse ≡ true → at + count * ((size + 3) / 4) ≤ length (now words)) ⌝ }
+    requires { ⌜ (isRun size ≡ true) × (reverse ≡ true → (at + count * ((size + 3) / 4) ≤ length (now words)) × (length (now words) ≤ lengthLimit)) ⌝ }
     ensures { λ r. ⌜ HasWide reverse size (now (words .entry)) at count r ⌝ }
 {
     if reverse {

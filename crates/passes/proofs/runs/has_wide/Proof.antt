@@ -10,7 +10,7 @@ use Rattle.passes.proofs.runs.all_chars.Reads as all-chars-reads
 
 -- src/runs.rt:119:16
 all-chars-requires : tie.Need-all-chars-requires
-all-chars-requires c κs = let there = c .before .before .before .pre .1 (c .before .if1 .taken) in let s = c .if2 .taken in let t = rw s at there in omega arith
+all-chars-requires c κs = let there = c .before .before .before .pre .1 (c .before .if1 .taken) in let s = c .if2 .taken in let t = rw s at (there .0) in (omega arith, there .1)
 
 -- src/runs.rt:120:17
 returns : tie.Need-returns

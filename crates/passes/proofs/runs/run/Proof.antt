@@ -68,7 +68,7 @@ returns-2 c = runs-short (source-below (c .before .before .before .before .befor
 
 -- src/runs.rt:155:8
 has-wide-requires : tie.Need-has-wide-requires
-has-wide-requires c κs = (c .before .before .before .before .before .before .before .before .pre .1, λ e. words-there (c .before .before .before .before .before .before .before .before .args .reverse) (c .before .before .before .before .before .before .before .before .args .file .now) (c .before .before .before .before .before .before .before .before .args .words .now) (c .before .before .before .before .before .before .before .before .args .p .at) (c .before .before .before .before .before .before .before .before .args .size) (c .before .before .before .before .before .before .before .before .args .count) e (there (c)))
+has-wide-requires c κs = (c .before .before .before .before .before .before .before .before .pre .1, λ e. words-there (c .before .before .before .before .before .before .before .before .args .reverse) (c .before .before .before .before .before .before .before .before .args .file .now) (c .before .before .before .before .before .before .before .before .args .words .now) (c .before .before .before .before .before .before .before .before .args .p .at) (c .before .before .before .before .before .before .before .before .args .size) (c .before .before .before .before .before .before .before .before .args .count) e (there (c)) (c .before .before .before .before .before .before .before .before .pre .0 .short))
 
 -- src/runs.rt:156:9
 refusal-requires-2 : tie.Need-refusal-requires-2
