@@ -8,9 +8,9 @@ pub trait Bytes {
     fn field<const WIDTH: usize>(&mut self, bits: u32);
     /// The bytes of the words of a run; words of width 8 are halves of doubles. False where a word is no value of its field.
     fn run<const WIDTH: usize>(&mut self, words: &[u32]) -> bool;
-    /// The chars of an object's description, whose bytes have gone where they go.
+    /// An object's description is so many of these words, and ends before the one at `end`. They are taken only by who wants them.
     #[inline(always)]
-    fn described(&mut self, _chars: &[u32]) {}
+    fn described(&mut self, _words: &[u32], _end: usize, _length: usize) {}
 }
 
 #[derive(Default)]
@@ -165,8 +165,7 @@ impl<B: Bytes> Walk for FromTable<'_, B> {
 
     #[inline(always)]
     fn described(&mut self, length: usize) {
-        // With no panic in it, this costs nothing where nobody looks at descriptions.
-        self.out.described(self.bodies.get(self.at - length..self.at).unwrap_or_default());
+        self.out.described(self.bodies, self.at, length);
     }
 
     #[inline(always)]

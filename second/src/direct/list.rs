@@ -32,8 +32,10 @@ impl Bytes for Matched<'_> {
     }
 
     #[inline(always)]
-    fn described(&mut self, chars: &[u32]) {
-        self.entries += usize::from(same(chars, self.label));
+    fn described(&mut self, words: &[u32], end: usize, length: usize) {
+        if length == self.label.len() && same(&words[end - length..end], self.label) {
+            self.entries += 1;
+        }
     }
 }
 
@@ -55,16 +57,18 @@ impl Search<'_> {
         (matched.counted.bytes <= LONGEST_FILE).then_some(matched.entries)
     }
 
-    /// Whether an object has the label, in a version with descriptions.
-    fn has_label(&self, row: usize) -> bool {
-        let [kind, parent, start, length] = [0, 1, 2, 3].map(|word| self.contents[row * ROW + word] as usize);
-        let body = &self.bodies[start..start + length];
+    /// Whether the object of a row has the label, in a version with descriptions.
+    #[inline(always)]
+    fn has_label(&self, row: usize, words: &[u32]) -> bool {
+        let [kind, parent, start, length] = [0, 1, 2, 3].map(|word| words[word] as usize);
         if kind == GROUP as usize {
             // n, flow frame flag and the description's length stand before its chars.
-            return same(&body[3..], self.label);
+            return length == 3 + self.label.len()
+                && same(&self.bodies[start + 3..start + length], self.label);
         }
         // A longer description may end like the label and its length, so a walk has to tell where it begins.
-        ends_like(body, self.label) && self.walk_finds_label(row, start, parent)
+        ends_like(&self.bodies[start..start + length], self.label)
+            && self.walk_finds_label(row, start, parent)
     }
 
     fn walk_finds_label(&self, row: usize, start: usize, parent: usize) -> bool {
@@ -92,8 +96,9 @@ pub fn list(contents: &[u32], bodies: &[u32], label: &[u16], entries: &mut [u32]
         return Answer::refused(18, count as u32);
     }
     let all = count == contents.len() / ROW;
-    let rows = (0..).filter(|row| all || search.has_label(*row));
-    for (entry, row) in entries[..count].iter_mut().zip(rows) {
+    let rows = contents.chunks_exact(ROW).enumerate();
+    let found = rows.filter(|(row, words)| all || search.has_label(*row, words));
+    for (entry, (row, _)) in entries[..count].iter_mut().zip(found) {
         *entry = row as u32;
     }
     Answer::new(0, 0, count as u32, 0)
