@@ -1,9 +1,11 @@
-/* Reads a plan, whose file is named on the command line, writes its table back and compares: plan FILE. */
+/* Reads a plan. Without a label its table is checked, written back and compared with the file; with one, the objects that have it for their
+ * description are listed, each with the groups around it: plan FILE [LABEL]. */
 #include <stdio.h>
 #include <stdlib.h>
 #include <string.h>
 
 #include "jdr.h"
+#include "label.h"
 
 /* A table, in memory of exactly the words used. */
 struct table {
@@ -11,9 +13,9 @@ struct table {
     size_t contents_len, bodies_len;
 };
 
-static void fail(const char *what)
+static void fail(const char *message)
 {
-    perror(what);
+    fprintf(stderr, "%s\n", message);
     exit(2);
 }
 
@@ -22,7 +24,7 @@ static void *room(size_t count, size_t size)
 {
     void *memory = calloc(count ? count : 1, size);
     if (!memory)
-        fail("memory");
+        fail("no memory");
     return memory;
 }
 
@@ -37,10 +39,10 @@ static size_t load(const char *name, uint8_t *bytes, size_t most)
     size_t length;
     FILE *file = fopen(name, "rb");
     if (!file)
-        fail(name);
+        fail("the file cannot be read");
     length = fread(bytes, 1, most, file);
     if (ferror(file))
-        fail(name);
+        fail("the file cannot be read");
     fclose(file);
     return length;
 }
@@ -63,11 +65,60 @@ static int comes_back(const struct table *table, const uint8_t *file, size_t len
 {
     int same;
     uint8_t *copy = room(length, 1);
-    struct jdr_answer answer = jdr_write(table->contents, table->contents_len, table->bodies, table->bodies_len, copy, length);
+    struct jdr_answer answer;
+
+    print("check", jdr_check(table->contents, table->contents_len, table->bodies, table->bodies_len));
+    answer = jdr_write(table->contents, table->contents_len, table->bodies, table->bodies_len, copy, length);
     print("write", answer);
     same = answer.number == JDR_ACCEPTED && answer.offset == length && memcmp(copy, file, length) == 0;
+    puts(same ? "the same file" : "ANOTHER FILE");
     free(copy);
     return same;
+}
+
+static const char *kind_name(uint32_t kind)
+{
+    switch (kind) {
+    case JDR_GROUP:
+        return "group";
+    case JDR_PATH:
+        return "path";
+    case JDR_TEXT:
+        return "text";
+    default:
+        return "bitmap";
+    }
+}
+
+/* A row with its kind and the rows of the groups around it. The parent numbers lead from the innermost group to the outer one, row 0. */
+static void print_row(const uint32_t *contents, uint32_t row)
+{
+    printf("row %u %s inside", (unsigned)row, kind_name(contents[(size_t)row * JDR_ROW_WORDS]));
+    if (row == 0)
+        printf(" no group");
+    while (row != 0) {
+        row = contents[(size_t)row * JDR_ROW_WORDS + 1];
+        printf(" %u", (unsigned)row);
+    }
+    putchar('\n');
+}
+
+/* Lists without room first: the answer is already 0 where there are no entries, or has as offset how many are needed. */
+static int list_label(const struct table *table, const uint16_t *label, size_t label_len)
+{
+    uint32_t *entries = NULL, i;
+    struct jdr_answer answer =
+        jdr_list(table->contents, table->contents_len, table->bodies, table->bodies_len, label, label_len, NULL, 0);
+    if (answer.number == JDR_LIST_TOO_SHORT) {
+        size_t needed = answer.offset;
+        entries = room(needed, sizeof *entries);
+        answer = jdr_list(table->contents, table->contents_len, table->bodies, table->bodies_len, label, label_len, entries, needed);
+    }
+    print("list", answer);
+    for (i = 0; i < answer.rows; i++)
+        print_row(table->contents, entries[i]);
+    free(entries);
+    return answer.number == JDR_ACCEPTED;
 }
 
 int main(int count, char **arguments)
@@ -75,22 +126,24 @@ int main(int count, char **arguments)
     static uint8_t file[JDR_LONGEST_FILE + 1];
     struct table table = {NULL, NULL, 0, 0};
     struct jdr_answer answer;
-    size_t length;
-    int same;
+    uint16_t *label = NULL;
+    size_t length, label_len = 0;
+    int done = 0;
 
-    if (count != 2) {
-        fprintf(stderr, "usage: plan FILE\n");
-        return 2;
+    if (count != 2 && count != 3)
+        fail("usage: plan FILE [LABEL]");
+    if (count == 3) {
+        label = room(strlen(arguments[2]), sizeof *label);
+        if (!label_of(arguments[2], label, &label_len))
+            fail("the label is not UTF-8");
     }
     length = load(arguments[1], file, sizeof file);
     answer = read_plan(file, length, &table);
     print("read", answer);
-    if (answer.number != JDR_ACCEPTED)
-        return 0;
-    print("check", jdr_check(table.contents, table.contents_len, table.bodies, table.bodies_len));
-    same = comes_back(&table, file, length);
-    puts(same ? "the same file" : "ANOTHER FILE");
+    if (answer.number == JDR_ACCEPTED)
+        done = label ? list_label(&table, label, label_len) : comes_back(&table, file, length);
+    free(label);
     free(table.contents);
     free(table.bodies);
-    return same ? 0 : 1;
+    return done ? 0 : 1;
 }

@@ -1,14 +1,17 @@
-"""The library's calls for Python, by ctypes. Runs are ctypes arrays: words(n), and bytes for what is only read.
+"""The library's calls for Python, by ctypes. Runs are ctypes arrays: words(n), octets(n), chars(text), and bytes for what is only read.
 
 The variable JDR_LIBRARY names the libjdr_c.so that tools/library makes; without it the system's search is used.
 """
 
 import ctypes
 import os
+import sys
 
 ACCEPTED = 0
 CONTENTS_TOO_SHORT = 14
+LIST_TOO_SHORT = 18
 ROW_WORDS = 4  # kind, parent, start, length
+KINDS = {1: "group", 2: "path", 3: "text", 4: "bitmap"}
 
 
 class Answer(ctypes.Structure):
@@ -43,6 +46,13 @@ def octets(count):
     return (ctypes.c_uint8 * count)()
 
 
+def chars(text):
+    """The text as 16-bit chars, which are UTF-16; ValueError where it has no such form."""
+    units = text.encode("utf-16-le" if sys.byteorder == "little" else "utf-16-be")
+    return (ctypes.c_uint16 * (len(units) // 2)).from_buffer_copy(units)
+
+
 read = _call("jdr_read", 3)  # file, contents, bodies
 check = _call("jdr_check", 2)  # contents, bodies
 write = _call("jdr_write", 3)  # contents, bodies, file
+list = _call("jdr_list", 4)  # contents, bodies, label, entries

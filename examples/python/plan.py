@@ -1,5 +1,8 @@
-"""Reads a plan, whose file is named on the command line, writes its table back and compares: plan.py FILE."""
+"""Reads a plan. Without a label its table is checked, written back and compared with the file; with one, the objects that have it for
+their description are listed, each with the groups around it: plan.py FILE [LABEL].
+"""
 
+import os
 import sys
 
 import jdr
@@ -10,37 +13,74 @@ def show(call, answer):
 
 
 def read_plan(file):
-    """Reads without room first: the answer is the refusal, or has the counts that are needed."""
-    needed = jdr.read(file, jdr.words(0), jdr.words(0))
-    if needed.number != jdr.CONTENTS_TOO_SHORT:
-        return needed, None
-    contents = jdr.words(needed.rows * jdr.ROW_WORDS)
-    bodies = jdr.words(needed.words)
-    return jdr.read(file, contents, bodies), (contents, bodies)
+    """The table, or None. Reads without room first: the answer is the refusal, or has the counts that are needed."""
+    answer = jdr.read(file, jdr.words(0), jdr.words(0))
+    table = None
+    if answer.number == jdr.CONTENTS_TOO_SHORT:
+        table = jdr.words(answer.rows * jdr.ROW_WORDS), jdr.words(answer.words)
+        answer = jdr.read(file, *table)
+    show("read", answer)
+    return table if answer.number == jdr.ACCEPTED else None
 
 
 def comes_back(table, file):
     """Whether the table's file is the one that it was read from."""
+    show("check", jdr.check(*table))
     copy = jdr.octets(len(file))
     answer = jdr.write(*table, copy)
     show("write", answer)
-    return answer.number == jdr.ACCEPTED and answer.offset == len(file) and bytes(copy) == file
-
-
-def main():
-    if len(sys.argv) != 2:
-        sys.exit("usage: plan.py FILE")
-    with open(sys.argv[1], "rb") as source:
-        file = source.read()
-    answer, table = read_plan(file)
-    show("read", answer)
-    if answer.number != jdr.ACCEPTED:
-        return 0
-    show("check", jdr.check(*table))
-    same = comes_back(table, file)
+    same = answer.number == jdr.ACCEPTED and answer.offset == len(file) and bytes(copy) == file
     print("the same file" if same else "ANOTHER FILE")
-    return 0 if same else 1
+    return same
+
+
+def groups_around(contents, row):
+    """The rows of the groups around a row: the parent numbers lead from the innermost group to the outer one, row 0."""
+    while row != 0:
+        row = contents[row * jdr.ROW_WORDS + 1]
+        yield row
+
+
+def list_label(table, label):
+    """Lists without room first: the answer is already 0 where there are no entries, or has as offset how many are needed."""
+    entries = jdr.words(0)
+    answer = jdr.list(*table, label, entries)
+    if answer.number == jdr.LIST_TOO_SHORT:
+        entries = jdr.words(answer.offset)
+        answer = jdr.list(*table, label, entries)
+    show("list", answer)
+    contents = table[0]
+    for row in entries[: answer.rows]:
+        kind = jdr.KINDS[contents[row * jdr.ROW_WORDS]]
+        print(f"row {row} {kind} inside", *groups_around(contents, row) if row else ["no group"])
+    return answer.number == jdr.ACCEPTED
+
+
+def run(name, label=None):
+    """Whether all went well; SystemExit where the command line is at fault."""
+    if label is not None:
+        try:
+            # the bytes of the command line, whatever the locale takes them for
+            label = jdr.chars(os.fsencode(label).decode("utf-8"))
+        except ValueError:
+            fail("the label is not UTF-8")
+    try:
+        with open(name, "rb") as source:
+            file = source.read()
+    except OSError:
+        fail("the file cannot be read")
+    table = read_plan(file)
+    if table is None:
+        return False
+    return comes_back(table, file) if label is None else list_label(table, label)
+
+
+def fail(message):
+    print(message, file=sys.stderr)
+    sys.exit(2)
 
 
 if __name__ == "__main__":
-    sys.exit(main())
+    if len(sys.argv) not in (2, 3):
+        fail("usage: plan FILE [LABEL]")
+    sys.exit(0 if run(*sys.argv[1:]) else 1)

@@ -14,8 +14,14 @@ pub struct Answer {
 pub const ACCEPTED: u32 = 0;
 /// The number of a read that has no room for its rows.
 pub const CONTENTS_TOO_SHORT: u32 = 14;
+/// The number of a listing that has no room for its entries.
+pub const LIST_TOO_SHORT: u32 = 18;
 /// The words of a row of the contents: kind, parent, start, length.
 pub const ROW_WORDS: usize = 4;
+/// The kinds of rows.
+pub const GROUP: u32 = 1;
+pub const PATH: u32 = 2;
+pub const TEXT: u32 = 3;
 
 mod c {
     use super::Answer;
@@ -43,6 +49,16 @@ mod c {
             bodies_len: usize,
             file: *mut u8,
             file_len: usize,
+        ) -> Answer;
+        pub fn jdr_list(
+            contents: *const u32,
+            contents_len: usize,
+            bodies: *const u32,
+            bodies_len: usize,
+            label: *const u16,
+            label_len: usize,
+            entries: *mut u32,
+            entries_len: usize,
         ) -> Answer;
     }
 }
@@ -75,6 +91,21 @@ pub fn write(contents: &[u32], bodies: &[u32], file: &mut [u8]) -> Answer {
             bodies.len(),
             file.as_mut_ptr(),
             file.len(),
+        )
+    }
+}
+
+pub fn list(contents: &[u32], bodies: &[u32], label: &[u16], entries: &mut [u32]) -> Answer {
+    unsafe {
+        c::jdr_list(
+            contents.as_ptr(),
+            contents.len(),
+            bodies.as_ptr(),
+            bodies.len(),
+            label.as_ptr(),
+            label.len(),
+            entries.as_mut_ptr(),
+            entries.len(),
         )
     }
 }

@@ -1,4 +1,5 @@
-//! Reads a plan, whose file is named on the command line, writes its table back and compares: plan FILE.
+//! Reads a plan. Without a label its table is checked, written back and compared with the file; with one, the objects that have it for
+//! their description are listed, each with the groups around it: plan FILE [LABEL].
 
 mod jdr;
 
@@ -16,48 +17,92 @@ fn print(call: &str, answer: Answer) {
 }
 
 /// Reads without room first: the answer is the refusal, or has the counts that are needed.
-fn read_plan(file: &[u8]) -> Result<(Answer, Table), Answer> {
-    let needed = jdr::read(file, &mut [], &mut []);
-    if needed.number != jdr::CONTENTS_TOO_SHORT {
-        return Err(needed);
+fn read_plan(file: &[u8]) -> Option<Table> {
+    let mut answer = jdr::read(file, &mut [], &mut []);
+    let mut table = Table { contents: Vec::new(), bodies: Vec::new() };
+    if answer.number == jdr::CONTENTS_TOO_SHORT {
+        table.contents = vec![0; answer.rows as usize * jdr::ROW_WORDS];
+        table.bodies = vec![0; answer.words as usize];
+        answer = jdr::read(file, &mut table.contents, &mut table.bodies);
     }
-    let contents = vec![0; needed.rows as usize * jdr::ROW_WORDS];
-    let bodies = vec![0; needed.words as usize];
-    let mut table = Table { contents, bodies };
-    let answer = jdr::read(file, &mut table.contents, &mut table.bodies);
-    Ok((answer, table))
+    print("read", answer);
+    (answer.number == jdr::ACCEPTED).then_some(table)
 }
 
 /// Whether the table's file is the one that it was read from.
 fn comes_back(table: &Table, file: &[u8]) -> bool {
+    print("check", jdr::check(&table.contents, &table.bodies));
     let mut copy = vec![0; file.len()];
     let answer = jdr::write(&table.contents, &table.bodies, &mut copy);
     print("write", answer);
-    answer.number == jdr::ACCEPTED && answer.offset as usize == file.len() && copy == file
+    let same = answer.number == jdr::ACCEPTED && answer.offset as usize == file.len() && copy == file;
+    println!("{}", if same { "the same file" } else { "ANOTHER FILE" });
+    same
+}
+
+fn kind_name(kind: u32) -> &'static str {
+    match kind {
+        jdr::GROUP => "group",
+        jdr::PATH => "path",
+        jdr::TEXT => "text",
+        _ => "bitmap",
+    }
+}
+
+/// A row with its kind and the rows of the groups around it. The parent numbers lead from the innermost group to the outer one, row 0.
+fn print_row(contents: &[u32], entry: u32) {
+    let word = |row: u32, place: usize| contents[row as usize * jdr::ROW_WORDS + place];
+    print!("row {entry} {} inside", kind_name(word(entry, 0)));
+    if entry == 0 {
+        print!(" no group");
+    }
+    let mut row = entry;
+    while row != 0 {
+        row = word(row, 1);
+        print!(" {row}");
+    }
+    println!();
+}
+
+/// Lists without room first: the answer is already 0 where there are no entries, or has as offset how many are needed.
+fn list_label(table: &Table, label: &[u16]) -> bool {
+    let mut entries = Vec::new();
+    let mut answer = jdr::list(&table.contents, &table.bodies, label, &mut entries);
+    if answer.number == jdr::LIST_TOO_SHORT {
+        entries = vec![0; answer.offset as usize];
+        answer = jdr::list(&table.contents, &table.bodies, label, &mut entries);
+    }
+    print("list", answer);
+    for entry in &entries[..answer.rows as usize] {
+        print_row(&table.contents, *entry);
+    }
+    answer.number == jdr::ACCEPTED
+}
+
+/// Whether all went well; a message where the command line is at fault.
+fn run() -> Result<bool, &'static str> {
+    let arguments: Vec<_> = std::env::args_os().skip(1).collect();
+    let (name, label) = match &arguments[..] {
+        [name] => (name, None),
+        [name, label] => (name, Some(label.to_str().ok_or("the label is not UTF-8")?)),
+        _ => return Err("usage: plan FILE [LABEL]"),
+    };
+    let file = std::fs::read(name).map_err(|_| "the file cannot be read")?;
+    let Some(table) = read_plan(&file) else {
+        return Ok(false);
+    };
+    Ok(match label {
+        None => comes_back(&table, &file),
+        Some(label) => list_label(&table, &label.encode_utf16().collect::<Vec<u16>>()),
+    })
 }
 
 fn main() -> ExitCode {
-    let Some(name) = std::env::args().nth(1) else {
-        eprintln!("usage: plan FILE");
-        return ExitCode::from(2);
-    };
-    let file = match std::fs::read(&name) {
-        Ok(file) => file,
-        Err(error) => {
-            eprintln!("{name}: {error}");
-            return ExitCode::from(2);
+    match run() {
+        Ok(done) => ExitCode::from(u8::from(!done)),
+        Err(message) => {
+            eprintln!("{message}");
+            ExitCode::from(2)
         }
-    };
-    let (answer, table) = match read_plan(&file) {
-        Ok(accepted) => accepted,
-        Err(refusal) => {
-            print("read", refusal);
-            return ExitCode::SUCCESS;
-        }
-    };
-    print("read", answer);
-    print("check", jdr::check(&table.contents, &table.bodies));
-    let same = comes_back(&table, &file);
-    println!("{}", if same { "the same file" } else { "ANOTHER FILE" });
-    ExitCode::from(u8::from(!same))
+    }
 }

@@ -8,6 +8,7 @@ pub mod ask;
 pub mod check;
 pub mod damage;
 pub mod direct;
+pub mod examples;
 pub mod generate;
 pub mod layout;
 pub mod list;

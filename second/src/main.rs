@@ -8,13 +8,15 @@ mod compare;
 mod library;
 
 use second::make::{self, Case};
-use second::{lister, read, table};
+use second::{examples, lister, read, table};
 use std::fs;
 use std::path::Path;
 use std::process::ExitCode;
 
 const USAGE: &str = "\
 second read FILE                         the answer, and the lister's lines of an accepted file
+second plan FILE [LABEL]                 what the programs in examples/ print
+second make-examples DIR                 their plans
 second make-read DIR [SEED]              cases of the read call
 second make-table DIR [SEED]             cases of the check and write calls
 second make-list DIR [SEED]              cases of the list call and the questions
@@ -28,6 +30,9 @@ fn main() -> ExitCode {
     let words: Vec<&str> = arguments.iter().map(String::as_str).collect();
     let done = match words[..] {
         ["read", file] => read_file(file),
+        ["plan", file] => plan(file, None),
+        ["plan", file, label] => plan(file, Some(label)),
+        ["make-examples", folder] => make_examples(Path::new(folder)),
         ["make-read", folder, ref seed @ ..] => make_cases(folder, seed, make::reads::cases),
         ["make-table", folder, ref seed @ ..] => make_cases(folder, seed, make::tables::cases),
         ["make-list", folder, ref seed @ ..] => make_cases(folder, seed, make::lists::cases),
@@ -55,6 +60,23 @@ fn read_file(name: &str) -> Result<ExitCode, String> {
             println!("0 {} {} {}", file.len(), table.rows(), table.words());
             print!("{}", lister::lines(&table));
         }
+    }
+    Ok(ExitCode::SUCCESS)
+}
+
+/// The exit status is that of the example programs too.
+fn plan(name: &str, label: Option<&str>) -> Result<ExitCode, String> {
+    let file = fs::read(name).map_err(|_| "the file cannot be read")?;
+    let (lines, well) = examples::lines(&file, label);
+    print!("{lines}");
+    Ok(ExitCode::from(u8::from(!well)))
+}
+
+fn make_examples(folder: &Path) -> Result<ExitCode, String> {
+    let failed = |error| format!("{}: {error}", folder.display());
+    fs::create_dir_all(folder).map_err(failed)?;
+    for (name, file) in examples::plans() {
+        fs::write(folder.join(name), file).map_err(failed)?;
     }
     Ok(ExitCode::SUCCESS)
 }

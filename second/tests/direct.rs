@@ -2,13 +2,13 @@
 
 use second::damage::fields::{of_bodies, of_file};
 use second::damage::{files, tables};
-use second::generate::special::{of_depth, padded, sampler, with_chains};
-use second::generate::{self, chars};
-use second::model::Drawing;
+use second::generate::special::{of_depth, padded, plain_bitmap, plain_drawing, sampler, with_chains};
+use second::generate::{self, all_labels, chars};
+use second::model::{Bitmap, Drawing, Group, Object};
 use second::random::Random;
 use second::table::{self, Table};
 use second::version::Version;
-use second::{check, direct, write};
+use second::{check, direct, list, write};
 
 const FILL: u32 = 0xA5A5_A5A5;
 
@@ -31,6 +31,28 @@ fn table_alike(table: &Table, room: usize) {
     assert!(file == direct_file, "{table:?}");
 }
 
+/// Every room around the one that is needed, and some more.
+fn list_alike(table: &Table, label: &[u16]) {
+    let Table { contents, bodies } = table;
+    let good = check::good(contents, bodies);
+    let needed = list::call(good.as_ref(), label, &mut []).offset as usize;
+    for room in [0, needed.saturating_sub(1), needed, needed + 5] {
+        let mut entries = vec![FILL; room];
+        let mut direct_entries = entries.clone();
+        let plain = list::call(good.as_ref(), label, &mut entries);
+        assert_eq!(plain, direct::list(contents, bodies, label, &mut direct_entries), "{label:x?} {table:?}");
+        assert!(entries == direct_entries, "{label:x?} {table:?}");
+    }
+}
+
+/// Some label: one of the drawing's descriptions most often.
+fn some_label(random: &mut Random, drawing: &Drawing) -> Vec<u16> {
+    if random.once_in(4) {
+        return random.pick(&all_labels()).clone();
+    }
+    random.pick(&list::opened(drawing)).description.to_vec()
+}
+
 fn all_alike(random: &mut Random, drawing: &Drawing, damaged: usize) {
     let (file, table) = (write::file(drawing), table::of(drawing));
     let (rows, words) = (table.contents.len(), table.bodies.len());
@@ -42,10 +64,15 @@ fn all_alike(random: &mut Random, drawing: &Drawing, damaged: usize) {
     for room in [file.len(), file.len() + 9, file.len() - 1, 0] {
         table_alike(&table, room);
     }
+    for _ in 0..4 {
+        list_alike(&table, &some_label(random, drawing));
+    }
     let (file_fields, body_fields) = (of_file(drawing), of_bodies(drawing));
     for _ in 0..damaged {
         read_alike(&files::any(random, &file, &file_fields), rows + 40, words + 200);
-        table_alike(&tables::any(random, &table, &body_fields), file.len() + 40);
+        let damaged = tables::any(random, &table, &body_fields);
+        table_alike(&damaged, file.len() + 40);
+        list_alike(&damaged, &some_label(random, drawing));
     }
 }
 
@@ -85,6 +112,38 @@ fn every_cut() {
         let (file, table) = (write::file(&drawing), table::of(&drawing));
         for kept in 0..file.len() {
             read_alike(&file[..kept], table.contents.len(), table.bodies.len());
+        }
+    }
+}
+
+/// The last chars of one description, with the one before them as their length, look like another that is shorter; and the fields
+/// before a description with its length look like chars of a longer one.
+#[test]
+fn labels_that_bodies_end_with() {
+    let descriptions =
+        [vec![], vec![0], vec![1, 65], vec![65], vec![2, 1, 65], vec![0, 0], vec![0, 1, 65], vec![0, 0, 0]];
+    for version in Version::ALL.into_iter().filter(|version| version.has_descriptions()) {
+        let bitmaps = descriptions.clone().map(|description| Bitmap { description, ..plain_bitmap(1) });
+        let groups = bitmaps.clone().map(|bitmap| {
+            let description = bitmap.description.clone();
+            Object::Group(Group { objects: vec![Object::Bitmap(bitmap)], description })
+        });
+        let drawing = plain_drawing(version, bitmaps.map(Object::Bitmap).into_iter().chain(groups).collect());
+        let table = table::of(&drawing);
+        for label in &descriptions {
+            list_alike(&table, label);
+        }
+        // What every body ends with, as chars, where they fit.
+        for row in 0..table.rows() {
+            let [_, _, start, length] = table.row(row).unwrap() else { unreachable!() };
+            let body = &table.bodies[*start as usize..][..*length as usize];
+            for from in 0..body.len() {
+                let label =
+                    body[from..].iter().map(|word| u16::try_from(*word)).collect::<Result<Vec<_>, _>>();
+                if let Ok(label) = label {
+                    list_alike(&table, &label);
+                }
+            }
         }
     }
 }

@@ -2,9 +2,10 @@
 
 use crate::library;
 use second::answer::Answer;
-use second::model::Drawing;
+use second::generate::chars;
+use second::model::{Chars, Drawing};
 use second::table::{self, Table};
-use second::{check, direct, write};
+use second::{check, direct, list, write};
 use std::hint::black_box;
 
 #[derive(Clone, Copy)]
@@ -12,16 +13,27 @@ pub enum Call {
     Read,
     Check,
     Write,
+    /// With a label that some rows have.
+    List,
+    /// With the empty label, which all rows have below 1.2.
+    ListEmpty,
 }
 
 impl Call {
-    pub const ALL: [Call; 3] = [Call::Read, Call::Check, Call::Write];
+    /// Those that the linked library has.
+    pub const ALL: &[Call] = if cfg!(feature = "list") {
+        &[Call::Read, Call::Check, Call::Write, Call::List, Call::ListEmpty]
+    } else {
+        &[Call::Read, Call::Check, Call::Write]
+    };
 
     pub fn name(self) -> &'static str {
         match self {
             Call::Read => "read",
             Call::Check => "check",
             Call::Write => "write",
+            Call::List => "list",
+            Call::ListEmpty => "list-empty",
         }
     }
 }
@@ -53,6 +65,8 @@ pub struct Plan {
     contents: Vec<u32>,
     bodies: Vec<u32>,
     pub output: Vec<u8>,
+    label: Chars,
+    entries: Vec<u32>,
 }
 
 pub struct Work {
@@ -72,7 +86,8 @@ impl Plan {
         let (file, table) = (write::file(drawing), table::of(drawing));
         let (contents, bodies) = (vec![0; table.contents.len()], vec![0; table.bodies.len()]);
         let output = vec![0; file.len()];
-        Plan { file, table, contents, bodies, output }
+        let (label, entries) = (frequent_label(drawing), vec![0; table.rows() as usize]);
+        Plan { file, table, contents, bodies, output, label, entries }
     }
 
     fn read(&mut self, who: Who) -> Answer {
@@ -101,6 +116,25 @@ impl Plan {
             Who::Plain => write::call(check::good(contents, bodies).as_ref(), file),
         }
     }
+
+    fn list(&mut self, who: Who, empty: bool) -> Answer {
+        let (contents, bodies, entries) = (&self.table.contents, &self.table.bodies, &mut self.entries);
+        let label = if empty { &[] } else { &self.label[..] };
+        match who {
+            Who::Library => library::list(given(contents), given(bodies), given(label), lent(entries))
+                .expect("only measured where it is linked"),
+            Who::Direct => direct::list(contents, bodies, label, entries),
+            Who::Plain => list::call(check::good(contents, bodies).as_ref(), label, entries),
+        }
+    }
+}
+
+/// The label that most rows have, the empty one left out; below 1.2, where none is there, one that is never found.
+fn frequent_label(drawing: &Drawing) -> Chars {
+    let labels = list::opened(drawing).into_iter().map(|object| object.description);
+    let labels: Vec<&[u16]> = labels.filter(|label| !label.is_empty()).collect();
+    let count = |wanted: &[u16]| labels.iter().filter(|label| **label == wanted).count();
+    labels.iter().max_by_key(|label| count(label)).map_or(chars("machine"), |label| label.to_vec())
 }
 
 impl Work {
@@ -120,6 +154,8 @@ impl Work {
                 Call::Read => plan.read(who),
                 Call::Check => plan.check(who),
                 Call::Write => plan.write(who),
+                Call::List => plan.list(who, false),
+                Call::ListEmpty => plan.list(who, true),
             };
             assert_eq!(black_box(answer).number, 0, "{} of {}", call.name(), who.name());
         }

@@ -8,6 +8,9 @@ pub trait Bytes {
     fn field<const WIDTH: usize>(&mut self, bits: u32);
     /// The bytes of the words of a run; words of width 8 are halves of doubles. False where a word is no value of its field.
     fn run<const WIDTH: usize>(&mut self, words: &[u32]) -> bool;
+    /// An object's description is so many of these words, and ends before the one at `end`. They are taken only by who wants them.
+    #[inline(always)]
+    fn described(&mut self, _words: &[u32], _end: usize, _length: usize) {}
 }
 
 #[derive(Default)]
@@ -80,6 +83,11 @@ pub struct NoTable;
 impl<'a, B: Bytes> FromTable<'a, B> {
     pub fn new(contents: &'a [u32], bodies: &'a [u32], out: B) -> FromTable<'a, B> {
         FromTable { contents, bodies, row: 0, at: 0, out }
+    }
+
+    /// A walk that begins with this row, whose body starts here.
+    pub fn at_row(self, row: usize, start: usize) -> FromTable<'a, B> {
+        FromTable { row, at: start, ..self }
     }
 
     #[inline(always)]
@@ -156,9 +164,21 @@ impl<B: Bytes> Walk for FromTable<'_, B> {
     }
 
     #[inline(always)]
+    fn described(&mut self, length: usize) {
+        self.out.described(self.bodies, self.at, length);
+    }
+
+    #[inline(always)]
     fn close(&mut self, opened: Opened, _parent: usize) -> Result<(), NoTable> {
         only_if(self.contents[opened.row * ROW + 3] as usize == self.at - opened.start)
     }
+}
+
+/// An object of a table that is good, and all that it holds.
+pub fn walk_object<B: Bytes>(mut from: FromTable<B>, parent: usize, depth: u32) -> Option<B> {
+    let minor = *from.bodies.first()?;
+    walk::object(&mut from, minor, parent, depth).ok()?;
+    Some(from.out)
 }
 
 /// The whole table.

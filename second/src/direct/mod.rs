@@ -1,9 +1,10 @@
-//! Reading, checking and writing as a program does it that cares for time: from bytes to words and back, without the drawing in
-//! between and without memory of its own. A first walk judges and counts, a second one stores, so a refusal stores nothing. The plain
-//! modules say what is right; this one is measured beside the library, and `tests/direct.rs` holds it to the plain answers.
+//! Reading, checking, writing and listing as a program does it that cares for time: from bytes to words and back, without the drawing
+//! in between and without memory of its own. A first walk judges and counts before anything is stored, so a refusal stores nothing. The
+//! plain modules say what is right; this one is measured beside the library, and `tests/direct.rs` holds it to the plain answers.
 
 mod from_file;
 mod from_table;
+mod list;
 mod walk;
 
 use crate::answer::Answer;
@@ -11,6 +12,7 @@ use crate::table::ROW;
 use crate::version::LONGEST_FILE;
 use from_file::FromFile;
 use from_table::FromTable;
+pub use list::list;
 
 /// The read call.
 pub fn read(file: &[u8], contents: &mut [u32], bodies: &mut [u32]) -> Answer {

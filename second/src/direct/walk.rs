@@ -37,6 +37,10 @@ pub trait Walk {
     /// The members are done and the group's own body begins.
     fn members_done(&mut self, opened: &mut Opened, n: u32) -> Result<(), Self::Stop>;
 
+    /// An object's description is the last so many chars passed; it is empty below 1.2.
+    #[inline(always)]
+    fn described(&mut self, _length: usize) {}
+
     /// The body is done.
     fn close(&mut self, opened: Opened, parent: usize) -> Result<(), Self::Stop>;
 }
@@ -67,9 +71,11 @@ fn count<W: Walk>(walk: &mut W, least: i32) -> Result<u32, W::Stop> {
     walk.field::<4>(|bits| unless(bits.cast_signed() >= least, 8))
 }
 
-fn string<W: Walk>(walk: &mut W, least: i32) -> Result<(), W::Stop> {
-    let length = count(walk, least)?;
-    walk.run::<2>(length as usize)
+/// Its length.
+fn string<W: Walk>(walk: &mut W, least: i32) -> Result<usize, W::Stop> {
+    let length = count(walk, least)? as usize;
+    walk.run::<2>(length)?;
+    Ok(length)
 }
 
 /// A component from 0 to 1 by its bits, -0 among them.
@@ -264,7 +270,8 @@ fn text<W: Walk>(walk: &mut W, minor: u32) -> Result<(), W::Stop> {
         string(walk, 0)?;
     }
     paint(walk, minor)?;
-    string(walk, 1)
+    string(walk, 1)?;
+    Ok(())
 }
 
 fn bitmap<W: Walk>(walk: &mut W) -> Result<(), W::Stop> {
@@ -283,9 +290,8 @@ fn ending<W: Walk>(walk: &mut W, minor: u32) -> Result<(), W::Stop> {
         1 => 11,
         _ => 5,
     })?;
-    if minor >= 2 {
-        string(walk, 0)?;
-    }
+    let length = if minor >= 2 { string(walk, 0)? } else { 0 };
+    walk.described(length);
     Ok(())
 }
 

@@ -1,0 +1,49 @@
+//! The plans of the example programs, and lines for them that are put down by hand.
+
+use second::examples::{lines, plans};
+
+fn said(plan: &str, label: Option<&str>) -> (String, bool) {
+    let file = plans().into_iter().find(|(name, _)| *name == plan).map(|(_, file)| file);
+    lines(&file.expect(plan), label)
+}
+
+/// The rows that are listed, and nothing of the answers above them.
+fn rows(plan: &str, label: &str) -> Vec<String> {
+    let (lines, well) = said(plan, Some(label));
+    assert!(well);
+    lines.lines().skip(2).map(str::to_string).collect()
+}
+
+#[test]
+fn labels_at_several_depths() {
+    let machines = ["row 2 bitmap inside 1 0", "row 3 path inside 1 0", "row 6 text inside 5 4 0"];
+    assert_eq!(rows("hall.jdr", "machine"), machines);
+    let bays = [
+        "row 0 group inside no group",
+        "row 1 group inside 0",
+        "row 2 text inside 1 0",
+        "row 6 path inside 5 4 0",
+    ];
+    assert_eq!(rows("bays.jdr", "bay"), bays);
+}
+
+#[test]
+fn a_parent_is_not_the_group_that_ended_last() {
+    assert_eq!(rows("bays.jdr", "Fräse 🔧"), ["row 3 bitmap inside 1 0", "row 7 text inside 4 0"]);
+    assert_eq!(rows("hall.jdr", "door"), ["row 7 bitmap inside 0"]);
+}
+
+#[test]
+fn labels_that_are_not_there_or_empty() {
+    assert_eq!(said("hall.jdr", Some("press")), ("read: 0 522 8 178\nlist: 0 0 0 0\n".to_string(), true));
+    assert!(rows("hall.jdr", "").is_empty());
+    assert_eq!(rows("bays.jdr", ""), ["row 4 group inside 0"]);
+    assert_eq!(rows("plan-a.jdr", ""), ["row 0 group inside no group", "row 1 bitmap inside 0"]);
+}
+
+#[test]
+fn without_a_label_the_file_comes_back() {
+    let whole = "read: 0 82 2 20\ncheck: 0 82 2 20\nwrite: 0 82 2 20\nthe same file\n";
+    assert_eq!(said("plan-a.jdr", None), (whole.to_string(), true));
+    assert_eq!(said("cut.jdr", None), ("read: 2 501 0 0\n".to_string(), false));
+}
