@@ -1,0 +1,2 @@
+-- What the structs of include/jdr.h hold.
+pub mod Values
