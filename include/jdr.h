@@ -54,9 +54,51 @@ enum {
     JDR_BITMAP = 4
 };
 
+/* Which paint `jdr_paint` is asked for; any other number is a part that no row has. */
+enum {
+    JDR_LINE_PAINT = 0,          /* of a path */
+    JDR_FILL_PAINT = 1,          /* of a path */
+    JDR_TEXT_PAINT = 2           /* of a text */
+};
+
+/* The kinds of colours, with their components. */
+enum {
+    JDR_TRANSPARENT = 0,         /* none */
+    JDR_RGB = 1,                 /* red, green, blue, alpha */
+    JDR_CMYK = 2,                /* cyan, magenta, yellow, black, alpha */
+    JDR_GREY = 3,                /* grey, alpha */
+    JDR_HSB = 4                  /* hue, saturation, brightness, alpha */
+};
+
+/* The forms of paints. */
+enum {
+    JDR_PLAIN = 0,               /* the first colour */
+    JDR_LINEAR = 1,              /* a gradient from the first to the second colour; place is its direction */
+    JDR_RADIAL = 2               /* the same; place is its location */
+};
+
 /* What a call answers: a number of those above, the offset, and the counts of rows and of words in the bodies. */
 struct jdr_answer {
     uint32_t number, offset, rows, words;
+};
+
+/* A colour: its kind, and its components in file order, the unused ones +0. */
+struct jdr_color {
+    uint32_t kind;
+    float c[5];
+};
+
+/* What jdr_paint answers: a number, the form, the gradient's integer (0 of a plain paint), and the colours; the second is transparent where
+ * the form is plain. A refusal is plain, with transparent colours. */
+struct jdr_paint {
+    uint32_t number, form, place;
+    struct jdr_color first, second;
+};
+
+/* What jdr_text answers: a number, and where in the bodies the chars of the LaTeX alternative and those of the text stand, one a word. A
+ * text without LaTeX fields has 0 and 0 for the alternative; with a refusal all places are 0. */
+struct jdr_text {
+    uint32_t number, alternative_start, alternative_length, text_start, text_length;
 };
 
 /* Reads a file into a table: contents, a row an object in the order in which objects open, and bodies, which begin with the minor version
@@ -75,6 +117,19 @@ struct jdr_answer jdr_write(const uint32_t *contents, size_t contents_len, const
  * how many they are as rows, and the row numbers in the order in which the objects open; 16; or 18. */
 struct jdr_answer jdr_list(const uint32_t *contents, size_t contents_len, const uint32_t *bodies, size_t bodies_len, const uint16_t *label,
                            size_t label_len, uint32_t *entries, size_t entries_len);
+
+/* The numbers of the two questions about a row are others: */
+enum {
+    JDR_NO_ROW = 6,              /* the table has no such row */
+    JDR_NO_PART = 7              /* the row's object has no such part */
+};
+
+/* The line, fill or text paint of a row of a table, whose used words are lent exactly. 0; 16, then 6, then 7. */
+struct jdr_paint jdr_paint(const uint32_t *contents, size_t contents_len, const uint32_t *bodies, size_t bodies_len, uint32_t row,
+                           uint32_t which);
+
+/* Where the chars of a text row of a table, whose used words are lent exactly, stand. 0; 16, then 6, then 7. */
+struct jdr_text jdr_text(const uint32_t *contents, size_t contents_len, const uint32_t *bodies, size_t bodies_len, uint32_t row);
 
 #ifdef __cplusplus
 }

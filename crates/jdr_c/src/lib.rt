@@ -3,7 +3,29 @@
 // C cannot say: that a run is as long as it is said to be, and that one lent for writing overlaps no other.
 ghost use Rattle.drawing.specs.Answers.{Reads, Checks, Writes};
 ghost use Rattle.questions.specs.Lists.{Lists};
+ghost use Rattle.questions.specs.TextQuestion.{Texts};
+ghost use Rattle.jdr_c.specs.Values.{GivesPaint};
 use jdr::Answer;
+use jdr::TextAnswer;
+
+mod paint;
+
+// A plain paint: 0 transparent, 1 RGB, 2 CMYK, 3 grey, 4 HSB, and its components.
+#[repr(C)]
+pub struct Color {
+    pub kind: u32,
+    pub components: [f32; 5],
+}
+
+// A paint, or a refusal's number: 0 plain, 1 linear, 2 radial, the gradient's integer, and the one or two plain paints.
+#[repr(C)]
+pub struct GivenPaint {
+    pub number: u32,
+    pub form: u32,
+    pub place: u32,
+    pub first: Color,
+    pub second: Color,
+}
 
 // `jdr::read`.
 #[no_mangle]
@@ -40,4 +62,20 @@ pub extern "C" fn jdr_list(
     ensures { λ r. ⌜ Lists (now (contents .entry)) (now (bodies .entry)) (now (label .entry)) (now (entries .entry)) r (now (entries .exit)) ⌝ }
 {
     jdr::list(contents, bodies, label, entries)
+}
+
+// `jdr::paint`, with a number for the part: 0 line, 1 fill, 2 text, and any other for one that no object has.
+#[no_mangle]
+pub extern "C" fn jdr_paint(contents: &[u32], bodies: &[u32], row: u32, which: u32) -> GivenPaint
+    ensures { λ r. ⌜ GivesPaint (now (contents .entry)) (now (bodies .entry)) row which r ⌝ }
+{
+    paint::given(paint::asked(contents, bodies, row, which))
+}
+
+// `jdr::text`, whose answer is C's struct as it is.
+#[no_mangle]
+pub extern "C" fn jdr_text(contents: &[u32], bodies: &[u32], row: u32) -> TextAnswer
+    ensures { λ r. ⌜ Texts (now (contents .entry)) (now (bodies .entry)) row r ⌝ }
+{
+    jdr::text(contents, bodies, row)
 }

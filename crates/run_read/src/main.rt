@@ -7,6 +7,7 @@ ghost use Rattle.jdr.specs.Within.{Within};
 ghost use Rattle.text_out.specs.Buffer.{InBuffer};
 use drawing::Answer;
 use text_out::Buffer;
+use text_out::cases;
 use text_out::put;
 use text_out::put_all;
 use text_out::put_answer;
@@ -34,7 +35,7 @@ fn put_cases(buffer: &mut Buffer) -> usize
     let mut used = 0;
     let mut place = 0;
     while place < 10000 {
-        let name = text_out::name_of(place);
+        let name = cases::name_of(place);
         let fd = os::open_read(&name);
         if fd < 0 {
             return used;
@@ -146,17 +147,7 @@ fn put_call(
 {
     let answer = jdr::read(file, contents, bodies);
     let used = put_answer(buffer, used, answer);
-    let used = put_hash(buffer, used, hash(contents));
-    let used = put_hash(buffer, used, hash(bodies));
+    let used = put_hash(buffer, used, cases::hash(contents));
+    let used = put_hash(buffer, used, cases::hash(bodies));
     Group { answer, used }
-}
-
-fn hash(words: &[u32]) -> u64 {
-    let mut sum = text_out::NO_HASH;
-    let mut i = 0;
-    while i < words.len() {
-        sum = text_out::hash_step(sum, words[i]);
-        i += 1;
-    }
-    sum
 }

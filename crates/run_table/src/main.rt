@@ -1,13 +1,13 @@
 // Checks and writes the table in each file of data/, with the rooms that second/README.md names under make-table, and
 // prints the answers with hashes of the lent memory. What it prints is held to the lines of `second`.
-ghost use Prim.Native.Nat.{_+_, _≤_, _<_};
+ghost use Prim.Native.Nat.{_≤_};
 ghost use mathlib.Core.Path.{_≡_};
 ghost use lib.ListN.{length};
-ghost use Rattle.io.specs.Counts.{Counts};
 ghost use Rattle.jdr.specs.Within.{FileWithin};
 ghost use Rattle.text_out.specs.Buffer.{InBuffer};
 use drawing::Answer;
 use text_out::Buffer;
+use text_out::cases;
 use text_out::put;
 use text_out::put_all;
 use text_out::put_answer;
@@ -35,7 +35,7 @@ fn put_cases(buffer: &mut Buffer) -> usize
     let mut used = 0;
     let mut place = 0;
     while place < 10000 {
-        let name = text_out::name_of(place);
+        let name = cases::name_of(place);
         let fd = os::open_read(&name);
         if fd < 0 {
             return used;
@@ -55,48 +55,11 @@ fn put_case(buffer: &mut Buffer, used: usize, name: &[u8; 4], fd: i32) -> usize
     let mut file = [0u8; 411956];
     let length = io::read_full(fd, &mut file);
     let mut words = [0u32; 102989];
-    let count = get_words(&file[..length], &mut words);
+    let count = cases::get_words(&file[..length], &mut words);
     let used = put_all(buffer, used, name);
     let used = put(buffer, used, b':');
     let used = put_table(buffer, used, &words[..count]);
     put(buffer, used, b'\n')
-}
-
-// The words of a data file, as many as there is room for, and how many they are.
-fn get_words(file: &[u8], words: &mut [u32]) -> usize
-    ensures { λ r. ⌜ Counts r (now (words .exit)) ⌝ }
-{
-    let count = least(file.len() / 4, words.len());
-    let mut i = 0;
-    while i < count {
-        words[i] = word_at(file, 4 * i);
-        i += 1;
-    }
-    count
-}
-
-fn least(one: usize, other: usize) -> usize
-    ensures { λ r. ⌜ (r ≤ one) × (r ≤ other) ⌝ }
-{
-    if one < other {
-        return one;
-    }
-    other
-}
-
-// Four bytes, the highest first.
-fn word_at(file: &[u8], at: usize) -> u32
-    requires { ⌜ at + 4 ≤ length (now file) ⌝ }
-{
-    let high = 256 * wide(file[at]) + wide(file[at + 1]);
-    let low = 256 * wide(file[at + 2]) + wide(file[at + 3]);
-    65536 * high + low
-}
-
-fn wide(byte: u8) -> u32
-    ensures { λ r. ⌜ r < 256 ⌝ }
-{
-    byte as u32
 }
 
 // A data file's words are the number of contents words, the contents and the bodies.
@@ -107,19 +70,8 @@ fn put_table(buffer: &mut Buffer, used: usize, words: &[u32]) -> usize
     if words.len() == 0 {
         return used;
     }
-    let bodies = behind_contents(words[0] as usize, words.len());
+    let bodies = cases::end_of_run(1, words[0] as usize, words.len());
     put_groups(buffer, used, &words[1..bodies], &words[bodies..])
-}
-
-// Where the bodies begin: at the end, if there are not so many words.
-fn behind_contents(contents: usize, all: usize) -> usize
-    requires { ⌜ 1 ≤ all ⌝ }
-    ensures { λ r. ⌜ (1 ≤ r) × (r ≤ all) ⌝ }
-{
-    if contents < all {
-        return contents + 1;
-    }
-    all
 }
 
 // The check; the writer with a large room; and for a table that is written, the writer with room for its file, and with a byte less.
@@ -173,10 +125,10 @@ fn put_call(
 }
 
 fn hash(bytes: &[u8]) -> u64 {
-    let mut sum = text_out::NO_HASH;
+    let mut sum = cases::NO_HASH;
     let mut i = 0;
     while i < bytes.len() {
-        sum = text_out::hash_step(sum, wide(bytes[i]));
+        sum = cases::hash_step(sum, cases::wide(bytes[i]));
         i += 1;
     }
     sum

@@ -1,18 +1,15 @@
 // Standard output gathered in a buffer, so that many short pieces are written by few calls. The buffer and how much of it
-// is used are the caller's: each call takes both, and answers how much is used after it. And what the programs that run
-// cases have in common: the names of the cases, and the hash of lent memory.
+// is used are the caller's: each call takes both, and answers how much is used after it.
 ghost use mathlib.Core.Path.{_≡_};
-ghost use mathlib.Core.List.{[], _∷_};
-ghost use Prim.Native.Nat.{_+_, _/_, _%_, _<_};
+ghost use Prim.Native.Nat.{_<_};
 ghost use Rattle.text_out.specs.Buffer.{InBuffer};
 use drawing::Answer;
 use libc::STDOUT_FILENO;
 
+pub mod cases;
+
 // As many bytes as `io::buffer` gives.
 pub type Buffer = [u8; 4096];
-
-// The hash of no words.
-pub const NO_HASH: u64 = 2166136261;
 
 pub fn put(buffer: &mut Buffer, used: usize, byte: u8) -> usize
     requires { ⌜ InBuffer used ⌝ }
@@ -94,32 +91,4 @@ fn room(buffer: &Buffer, used: usize) -> usize
         return used;
     }
     flush(buffer, used)
-}
-
-// The hash of the words before and this one.
-pub fn hash_step(sum: u64, word: u32) -> u64
-    requires { ⌜ sum < 4294967296 ⌝ }
-    ensures { λ r. ⌜ r < 4294967296 ⌝ }
-{
-    (sum * 16777619 + word as u64) % 4294967296
-}
-
-// The name of a case: four decimal digits.
-pub fn name_of(place: u32) -> [u8; 4]
-    requires { ⌜ place < 10000 ⌝ }
-    ensures { λ r. ⌜ r ≡ (48 + place / 1000) ∷ (48 + place / 100 % 10) ∷ (48 + place / 10 % 10) ∷ (48 + place % 10) ∷ [] ⌝ }
-{
-    [
-        digit(place / 1000),
-        digit(place / 100 % 10),
-        digit(place / 10 % 10),
-        digit(place % 10),
-    ]
-}
-
-fn digit(value: u32) -> u8
-    requires { ⌜ value < 10 ⌝ }
-    ensures { λ r. ⌜ r ≡ 48 + value ⌝ }
-{
-    b'0' + value as u8
 }

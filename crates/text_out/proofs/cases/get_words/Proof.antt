@@ -1,11 +1,11 @@
--- `run_table::get_words` stays in the file and in the run, and ends.
+-- `text_out::cases::get_words` stays in the file and in the run, and ends.
 use Prim.Native.Nat.{_≤_, _*_, _-_}
 use mathlib.Core.Path.{_≡_, sym}
 use lib.ListN.{length}
 use lib.Seq.{length-take-le}
 use borrow.Author.Needs.{needs}
-use Rattle.run_table.proofs.get_words.Statement.{statement}
-use Rattle.run_table.proofs.get_words.Tie as tie
+use Rattle.text_out.proofs.cases.get_words.Statement.{statement}
+use Rattle.text_out.proofs.cases.get_words.Tie as tie
 
 abbrev Inv-loop : tie.InvT-loop
 Inv-loop file words₀ count i₀ words i = (i ≤ count) × (4 * count ≤ length file) × (count ≤ length words) × (length words ≡ length words₀)

@@ -1,9 +1,9 @@
--- `run_read::hash` ends, and its sum stays below 2^32.
+-- `text_out::cases::hash` ends, and its sum stays below 2^32.
 use Prim.Native.Nat.{_≤_, _<_, _-_}
 use lib.ListN.{length}
 use borrow.Author.Needs.{needs}
-use Rattle.run_read.proofs.hash.Statement.{statement}
-use Rattle.run_read.proofs.hash.Tie as tie
+use Rattle.text_out.proofs.cases.hash.Statement.{statement}
+use Rattle.text_out.proofs.cases.hash.Tie as tie
 
 abbrev Inv-loop : tie.InvT-loop
 Inv-loop words sum₀ i₀ sum i = (i ≤ length words) × (sum < 4294967296)

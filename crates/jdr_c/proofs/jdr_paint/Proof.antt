@@ -1,0 +1,13 @@
+-- `jdr_c::jdr_paint` meets its contract: what is asked is given as C has it.
+use mathlib.Core.Path.{ap, _∙_}
+use Rattle.drawing.specs.Questions.{paintGiven}
+use Rattle.jdr_c.specs.Values.{paintStruct}
+use borrow.Author.Needs.{needs}
+use Rattle.jdr_c.proofs.jdr_paint.Statement.{statement}
+use Rattle.jdr_c.proofs.jdr_paint.Tie as tie
+
+returns : tie.Need-returns
+returns c = record { says = c .given .ensures ∙ ap (λ a. paintStruct (paintGiven a)) (c .before .asked .ensures) }
+
+pub jdr-paint-spec : {M : Type 1} → statement M
+jdr-paint-spec = tie.close (tie.spec (λ c κs. search needs) (λ c κs. search needs) returns)

@@ -1,0 +1,45 @@
+-- `jdr_c::paint::asked` meets its contract: each test tells which part the number stands for.
+use mathlib.Core.Option.{none}
+use mathlib.Core.Path.{_≡_, sym, ap, _∙_}
+use mathlib.Core.List.{List}
+use Prim.Native.Nat.{ℕ}
+use borrow.Author.Needs.{needs}
+use borrow.Author.Tests.{ne-eqb}
+use Rattle.drawing.specs.declared.PaintAnswer.{PaintAnswer}
+use Rattle.jdr_c.specs.Values.{partNumbered, paintAsked}
+use Rattle.jdr_c.proofs.paint.asked.Statement.{statement}
+use Rattle.jdr_c.proofs.paint.asked.Tie as tie
+
+no-such-part : (n : ℕ) → (n ≡ 0 → ⊥) → (n ≡ 1 → ⊥) → (n ≡ 2 → ⊥) → partNumbered n ≡ none
+no-such-part n no-line no-fill no-text = simp (ne-eqb n 0 no-line, ne-eqb n 1 no-fill, ne-eqb n 2 no-text)
+
+module _ (contents bodies : List ℕ) (row : ℕ) where
+  numbered : (m : ℕ) {n : ℕ} {r : PaintAnswer} → r ≡ paintAsked contents bodies row (partNumbered m) → n ≡ m
+      → r ≡ paintAsked contents bodies row (partNumbered n)
+  numbered m answered is = answered ∙ sym (ap (λ n. paintAsked contents bodies row (partNumbered n)) is)
+
+returns : tie.Need-returns
+returns c =
+    let args = c .before .before .before .before .args in
+    numbered (args .contents .now) (args .bodies .now) (args .row) 0 (c .paint .ensures .says) (c .before .if1 .taken)
+
+returns-2 : tie.Need-returns-2
+returns-2 c =
+    let args = c .before .before .before .before .before .args in
+    numbered (args .contents .now) (args .bodies .now) (args .row) 1 (c .paint2 .ensures .says) (c .before .if2 .taken)
+
+returns-3 : tie.Need-returns-3
+returns-3 c =
+    let args = c .before .before .before .before .before .before .args in
+    numbered (args .contents .now) (args .bodies .now) (args .row) 2 (c .paint3 .ensures .says) (c .before .if3 .taken)
+
+returns-4 : tie.Need-returns-4
+returns-4 c =
+    let args = c .before .before .before .before .before .before .args in
+    let no-part = no-such-part (args .which) (c .before .before .before .if1 .left) (c .before .before .if2 .left) (c .before .if3 .left) in
+    c .no-part .ensures ∙ sym (ap (paintAsked (args .contents .now) (args .bodies .now) (args .row)) no-part)
+
+pub asked-spec : {M : Type 1} → statement M
+asked-spec =
+    tie.close
+    (tie.spec (λ c κs. search needs) returns (λ c κs. search needs) returns-2 (λ c κs. search needs) returns-3 (λ c κs. search needs) returns-4)

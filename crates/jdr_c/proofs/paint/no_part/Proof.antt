@@ -1,0 +1,32 @@
+-- `jdr_c::paint::no_part` meets its contract: a table that is checked with 0 has a drawing, and each row below its count an object of it.
+use mathlib.Core.Option.{none}
+use mathlib.Core.Path.{sym, ap}
+use native.Mathlib.Omega.{arith}
+use mir.Syntax.{w32}
+use borrow.Author.Needs.{needs}
+use Rattle.format.specs.LeafLaws.{known-below}
+use Rattle.drawing.specs.Questions.{paintValue}
+use Rattle.questions.specs.RowQuestions.{no-table, no-such-row, asked, asked-part}
+use Rattle.jdr_c.proofs.paint.no_part.Statement.{statement}
+use Rattle.jdr_c.proofs.paint.no_part.Tie as tie
+
+returns : tie.Need-returns
+returns c = sym (ap paintValue (no-table (c .before .before .check .ensures) (c .before .before .before .before .before .args .row) (λ d o. none) (c .if1 .taken)))
+
+returns-2 : tie.Need-returns-2
+returns-2 c =
+    let judged = c .before .before in
+    let called = judged .before .before in
+    sym (ap paintValue (no-such-row (called .check .ensures) (called .before .before .before .args .row) (judged .if1 .left) (λ d o. none) (c .if2 .taken)))
+
+returns-3 : tie.Need-returns-3
+returns-3 c =
+    let judged = c .before .before in
+    let called = judged .before .before in
+    let start = called .before .before .before in
+    let below = known-below w32 (start .args .bodies .now) (called .before .shared-slice-known2 .given) in
+    let row = asked (called .check .ensures) (start .args .row) (judged .if1 .left) below (omega (arith, c .if2 .left)) in
+    sym (ap paintValue (asked-part (λ d o. none) row))
+
+pub no-part-spec : {M : Type 1} → statement M
+no-part-spec = tie.close (tie.spec (λ c κs. search needs) returns returns-2 returns-3)

@@ -1,0 +1,3 @@
+-- What the structs of include/jdr.h hold.
+pub mod Values
+pub mod ValueCases
