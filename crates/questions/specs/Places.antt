@@ -1,44 +1,83 @@
--- What stands at a place of the bodies, and places behind it.
-use mathlib.Core.Path.{_≡_, refl, sym, ap, subst, _∙_}
+-- What stands at a place of the bodies, and the places behind it: one notion for every part of a body.
+use mathlib.Core.Path.{_≡_, sym, ap, subst, _∙_}
 use Prim.Native.Nat.{ℕ, _+_, _<_, _≤_}
 use native.Mathlib.Nat.{add-zero}
 use native.Mathlib.Omega.{arith}
 use mathlib.Core.List.{List, _∷_, _++_, append-assoc}
-use lib.ListN.{length, drop, getD, length-append}
+use lib.ListN.{length, drop, getD, length-append, length-drop}
 use lib.Seq.{drop-drop, drop-append-seam, getD-drop}
+use Rattle.format.specs.Layout.{Layout, _&_}
+use Rattle.drawing.specs.Limits.{lengthLimit}
+use Rattle.drawing.specs.Table.{wordsOf}
+use Rattle.questions.specs.RowBodyLaws.{pair-words}
 
--- These words stand from here to there, and then those.
-pub record Stands (ws : List ℕ) (at end : ℕ) (these those : List ℕ) : Type 0 where
-  pub end-is : at + length these ≡ end
-  pub inside : end ≤ length ws
-  pub words-are : drop at ws ≡ these ++ those
+-- A good value of a layout stands here.
+pub record Here {A : Type 0} (L : Layout A) (ws : List ℕ) (at : ℕ) (a : A) : Type 0 where
+  pub good : L .Good a
+  pub inside : at ≤ length ws
+  pub rest : List ℕ
+  pub words-are : drop at ws ≡ wordsOf L a ++ rest
 
-module _ {ws : List ℕ} {at end : ℕ} where
-  pub stands-same : {xs ys rest : List ℕ} → xs ≡ ys → Stands ws at end xs rest → Stands ws at end ys rest
-  stands-same {rest = rest} same stands = subst (λ l. Stands ws at end l rest) same stands
+-- The place behind whatever good value stands here.
+abbrev pub Behind : {A : Type 0} → Layout A → List ℕ → (at behind : ℕ) → Type 0
+Behind {A} L ws at behind = (a : A) → Here L ws at a → behind ≡ at + length (wordsOf L a)
 
-  -- The same place, told in another way.
-  pub stands-at : {at′ : ℕ} {xs rest : List ℕ} → at ≡ at′ → Stands ws at end xs rest → Stands ws at′ end xs rest
-  stands-at {xs = xs} {rest = rest} same stands = subst (λ n. Stands ws n end xs rest) same stands
+-- A pass over it has found that place.
+pub record Passed {A : Type 0} (L : Layout A) (ws : List ℕ) (at behind : ℕ) : Type 0 where
+  pub is : Behind L ws at behind
+  pub inside : behind ≤ length ws
 
-  pub stands-first : (xs ys : List ℕ) {rest : List ℕ} → Stands ws at end (xs ++ ys) rest → Stands ws at (at + length xs) xs (ys ++ rest)
-  stands-first xs ys {rest} stands =
+-- Some good value stands here, among words that are not too many.
+pub record Holds {A : Type 0} (L : Layout A) (ws : List ℕ) (at : ℕ) : Type 0 where
+  pub short : length ws ≤ lengthLimit
+  pub value : A
+  pub here : Here L ws at value
+
+module _ {A : Type 0} {N : Layout A} {ws : List ℕ} {at : ℕ} {a : A} (here : Here N ws at a) where
+  pub here-long : at + length (wordsOf N a) ≤ length ws
+  here-long = omega (arith, sym (length-drop at ws) ∙ ap length (here .words-are) ∙ length-append (wordsOf N a) (here .rest), here .inside)
+
+  -- Another value with the same words stands here too.
+  pub here-as : {B : Type 0} (M : Layout B) {b : B} → wordsOf N a ≡ wordsOf M b → M .Good b → Here M ws at b
+  here-as M same good =
+      record { good = good; inside = here .inside; rest = here .rest; words-are = here .words-are ∙ ap (λ l. l ++ here .rest) same }
+
+  -- And one whose words come behind these.
+  pub here-behind : {B : Type 0} (front : List ℕ) (M : Layout B) {b : B} → wordsOf N a ≡ front ++ wordsOf M b → M .Good b → Here M ws (at + length front) b
+  here-behind front M {b} same good =
       record {
-        end-is = refl;
-        inside = omega (arith, length-append xs ys, stands .end-is, stands .inside);
-        words-are = stands .words-are ∙ append-assoc xs ys rest;
+        good = good;
+        inside = omega (arith, here-long, ap length same, length-append front (wordsOf M b));
+        rest = here .rest;
+        words-are =
+            sym (drop-drop (length front) at ws)
+            ∙ ap (drop (length front)) (here .words-are ∙ ap (λ l. l ++ here .rest) same ∙ append-assoc front (wordsOf M b) (here .rest))
+            ∙ drop-append-seam front (wordsOf M b ++ here .rest);
       }
 
-  pub stands-next : (xs ys : List ℕ) {rest : List ℕ} → Stands ws at end (xs ++ ys) rest → Stands ws (at + length xs) end ys rest
-  stands-next xs ys {rest} stands =
+  pub first-word : {x : ℕ} {xs : List ℕ} → wordsOf N a ≡ x ∷ xs → (at < length ws) × (getD ws at 0 ≡ x)
+  first-word {x} {xs} is = (
+    omega (arith, here-long, ap length is),
+    ap (λ n. getD ws n 0) (sym (add-zero at)) ∙ sym (getD-drop at ws 0 0) ∙ ap (λ l. getD l 0 0) (here .words-are ∙ ap (λ l. l ++ here .rest) is),
+  )
+
+-- Of two parts the first stands here, and the other one behind it.
+module _ {A B : Type 0} (L : Layout A) (M : Layout B) {ws : List ℕ} {at : ℕ} {a : A} {b : B} (here : Here (L & M) ws at (a, b)) where
+  pub here-first : Here L ws at a
+  here-first =
       record {
-        end-is = omega (arith, length-append xs ys, stands .end-is);
-        inside = stands .inside;
-        words-are = sym (drop-drop (length xs) at ws) ∙ ap (drop (length xs)) (stands .words-are ∙ append-assoc xs ys rest) ∙ drop-append-seam xs (ys ++ rest);
+        good = here .good .0;
+        inside = here .inside;
+        rest = wordsOf M b ++ here .rest;
+        words-are = here .words-are ∙ ap (λ l. l ++ here .rest) (pair-words L M a b) ∙ append-assoc (wordsOf L a) (wordsOf M b) (here .rest);
       }
 
-  pub first-word : {x : ℕ} {xs rest : List ℕ} → Stands ws at end (x ∷ xs) rest → getD ws at 0 ≡ x
-  first-word stands = ap (λ n. getD ws n 0) (sym (add-zero at)) ∙ sym (getD-drop at ws 0 0) ∙ ap (λ l. getD l 0 0) (stands .words-are)
+  pub here-next : {behind : ℕ} → Behind L ws at behind → Here M ws behind b
+  here-next is = subst (λ n. Here M ws n b) (sym (is a here-first)) (here-behind here (wordsOf L a) M (pair-words L M a b) (here .good .1))
 
-  pub first-inside : {x : ℕ} {xs rest : List ℕ} → Stands ws at end (x ∷ xs) rest → at < length ws
-  first-inside {x} {xs} stands = omega (arith, stands .end-is, stands .inside)
+  pub here-later : {behind : ℕ} → Behind L ws at behind → at ≤ behind
+  here-later is = omega (arith, is a here-first)
+
+  -- The other one ends where both end.
+  pub next-ends : {behind : ℕ} → Behind L ws at behind → behind + length (wordsOf M b) ≡ at + length (wordsOf (L & M) (a, b))
+  next-ends is = omega (arith, is a here-first, ap length (pair-words L M a b), length-append (wordsOf L a) (wordsOf M b))

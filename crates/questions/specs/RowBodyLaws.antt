@@ -2,7 +2,6 @@
 use mathlib.Core.Path.{_≡_, refl, sym, ap, ap₂, _∙_}
 use mathlib.Core.Option.{none, some}
 use Prim.Native.Nat.{ℕ, zero, suc, _+_, _*_, _-_, _^_, _<_, _≤_}
-use Prim.Native.Char.{code}
 use native.Mathlib.Nat.{zero-add, add-zero}
 use native.Mathlib.Omega.{arith}
 use mathlib.Core.List.{List, [], _∷_, _++_, append-nil, append-assoc}
@@ -17,22 +16,15 @@ use Rattle.format.specs.Codec.{spellAll}
 use Rattle.format.specs.FixedCodec.{spellFixed}
 use Rattle.format.specs.Format.{fields}
 use Rattle.format.specs.Layout.{Layout, field, when, threaded, _&_}
-use Rattle.format.specs.Alternative.{told}
 use Rattle.drawing.specs.Codecs.{wordFields}
-use Rattle.drawing.specs.Fields.{stringChar, charWhere, oneOfChars, byteIn}
+use Rattle.drawing.specs.Fields.{stringChar}
 use Rattle.drawing.specs.Limits.{depthLimit}
 use Rattle.drawing.specs.String.{String, string}
-use Rattle.drawing.specs.Choices.{ifFlag}
-use Rattle.drawing.specs.Paint as P
-use Rattle.drawing.specs.LineStyle.{lineStyle}
-use Rattle.drawing.specs.Path.{Point, Segment, Path, outline}
-use Rattle.drawing.specs.Text as T
-use Rattle.drawing.specs.Object.{Leaf, path, text, Object, leaf, group, Objects, none, more, listOf}
-use Rattle.drawing.specs.ObjectId.{leafLetter}
-use Rattle.drawing.specs.LeafLayout.{pathCase, otherCases, objectEnd}
+use Rattle.drawing.specs.Object.{Object, leaf, group, Objects, none, more, listOf}
+use Rattle.drawing.specs.LeafLayout.{objectEnd}
 use Rattle.drawing.specs.ObjectLayout.{object}
 use Rattle.drawing.specs.Drawing.{Drawing, outer}
-use Rattle.drawing.specs.Table.{wordsOf, leafWords, groupWords, rows, bodies, bodiesAll, contents, contentsAll, headWords, contentsOf, IsTable}
+use Rattle.drawing.specs.Table.{wordsOf, groupWords, rows, bodies, bodiesAll, contents, contentsAll, headWords, contentsOf, IsTable}
 use Rattle.drawing.specs.Order.{preorder, preorderAll, objectsOf}
 use Rattle.drawing.specs.Answers.{rowsOf}
 use Rattle.laws.specs.ObjectGood.{good-leaf, good-group, no-group}
@@ -191,7 +183,7 @@ row-body c bs d t r h =
     let l = rows-preorder (outer d) in
     rw zero-add at (each-at (RowBody c bs v) (objectsOf d) 0 r (outer d) (omega arith) all)
 
--- ---- the words of a leaf and of a group, in their parts
+-- ---- words, in their parts
 
 abbrev spelled : List Field → List ℕ
 spelled fs = spellAll (spellFixed wordFields) fs
@@ -205,9 +197,6 @@ spelled-append (f ∷ fs) gs =
 -- One part and then another.
 pub pair-words : {A B : Type 0} (f : Layout A) (g : Layout B) (a : A) (b : B) → wordsOf (f & g) (a, b) ≡ wordsOf f a ++ wordsOf g b
 pair-words f g a b = spelled-append (fields (f .format) a) (fields (g .format) b)
-
-pub leaf-words : (v : ℕ) (l : Leaf) (d : String) → leafWords v l d ≡ wordsOf (told (pathCase v) (otherCases v) (leafLetter l)) l ++ wordsOf (objectEnd v) d
-leaf-words v l d = pair-words (told (pathCase v) (otherCases v) (leafLetter l)) (objectEnd v) l d
 
 pub group-own-words : (v n : ℕ) (d : String) → groupWords v n d ≡ digits (2 ^ 32) 1 n ++ wordsOf (objectEnd v) d
 group-own-words v n d = refl
@@ -242,47 +231,3 @@ end-words v d h g = by (leb 2 v) (le-leb 2 v h) (g .1)
     by : (t : Bool) → t ≡ true → when t (string 0) [] .Good d → 0 ∷ wordsOf (when t (string 0) []) d ≡ 0 ∷ length d ∷ d
     by true e g = ap {B = List ℕ} (λ ws. 0 ∷ ws) (string-words 0 d g)
     by false e g = let z : _≡_ {A = Bool} false true = e in cc
-
--- ---- the words of a path and of a text
-
--- A path's words: its two paints, and then line style, the char O or C, and outline.
-pub path-words : (v : ℕ) (p : Path) → wordsOf (told (pathCase v) (otherCases v) (leafLetter (path p))) (path p)
-    ≡ wordsOf (P.paint v) (p .linePaint)
-    ++ (wordsOf (P.paint v) (p .fillPaint)
-    ++ (wordsOf (lineStyle v) (p .style) ++ (digits (2 ^ 32) 1 (p .openOrClosed) ++ wordsOf (outline v) (p .start, p .segments))))
-path-words v p =
-    let last = field (charWhere (oneOfChars (code "O" ∷ code "C" ∷ []))) & outline v in
-    let end : ℕ × (Point × List Segment) = (p .openOrClosed, (p .start, p .segments)) in
-    pair-words (P.paint v) (P.paint v & lineStyle v & last) (p .linePaint) (p .fillPaint, (p .style, end))
-    ∙ ap (λ l. wordsOf (P.paint v) (p .linePaint) ++ l)
-    (pair-words (P.paint v) (lineStyle v & last) (p .fillPaint) (p .style, end)
-    ∙ ap (λ l. wordsOf (P.paint v) (p .fillPaint) ++ l) (pair-words (lineStyle v) last (p .style) end))
-
--- A text's words: its font, its LaTeX fields, its paint, its chars.
-pub text-words : (v : ℕ) (t : T.Text) → wordsOf (told (pathCase v) (otherCases v) (leafLetter (text t))) (text t)
-    ≡ wordsOf T.font (T.fontOf t) ++ (wordsOf (ifFlag T.latex) (t .latex) ++ (wordsOf (P.paint v) (t .paint) ++ wordsOf (string 1) (t .text)))
-text-words v t =
-    pair-words T.font (ifFlag T.latex & P.paint v & string 1) (T.fontOf t) (t .latex, (t .paint, t .text))
-    ∙ ap (λ l. wordsOf T.font (T.fontOf t) ++ l)
-    (pair-words (ifFlag T.latex) (P.paint v & string 1) (t .latex) (t .paint, t .text)
-    ∙ ap (λ l. wordsOf (ifFlag T.latex) (t .latex) ++ l) (pair-words (P.paint v) (string 1) (t .paint) (t .text)))
-
--- The words of LaTeX fields that are there: the flag, four strings, two bytes, and the alternative.
-pub latex-words : (l : T.Latex) → wordsOf (ifFlag T.latex) (some l)
-    ≡ 1
-    ∷ (wordsOf (string 0) (l .family)
-    ++ (wordsOf (string 0) (l .series)
-    ++ (wordsOf (string 0) (l .shape)
-    ++ (wordsOf (string 0) (l .size)
-    ++ (digits (2 ^ 32) 1 (l .horizontal) ++ (digits (2 ^ 32) 1 (l .vertical) ++ wordsOf (string 0) (l .alternative)))))))
-latex-words l =
-    let s = string 0 in
-    let last = field (byteIn 0 2) & field (byteIn 0 3) & s in
-    let end : ℕ × (ℕ × String) = (l .horizontal, (l .vertical, l .alternative)) in
-    ap {B = List ℕ} (λ ws. 1 ∷ ws)
-    (pair-words s (s & s & s & last) (l .family) (l .series, (l .shape, (l .size, end)))
-    ∙ ap (λ ws. wordsOf s (l .family) ++ ws)
-    (pair-words s (s & s & last) (l .series) (l .shape, (l .size, end))
-    ∙ ap (λ ws. wordsOf s (l .series) ++ ws)
-    (pair-words s (s & last) (l .shape) (l .size, end)
-    ∙ ap (λ ws. wordsOf s (l .shape) ++ ws) (pair-words s last (l .size) end))))
