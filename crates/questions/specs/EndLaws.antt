@@ -1,20 +1,21 @@
 -- Where a leaf's fields begin and an object's end: behind a group's count, or behind a leaf's other fields.
 use mathlib.Core.Path.{_≡_, refl, sym, ap, subst, _∙_}
-use Prim.Native.Nat.{ℕ, _+_, _^_}
+use Prim.Native.Nat.{ℕ, _+_}
 use native.Mathlib.Omega.{arith}
 use mathlib.Core.List.{List, _++_}
 use lib.ListN.{length, length-append}
-use Rattle.format.specs.Digits.{digits}
+use Rattle.format.specs.Layout.{field}
 use Rattle.format.specs.Alternative.{told}
+use Rattle.drawing.specs.Fields.{memberCount}
 use Rattle.drawing.specs.String.{String}
-use Rattle.drawing.specs.Object.{Leaf, path, text, bitmap, Object, leaf, group, listOf}
+use Rattle.drawing.specs.Object.{Leaf, path, text, bitmap, Object, leaf, group, Objects, listOf}
 use Rattle.drawing.specs.ObjectId.{leafLetter}
 use Rattle.drawing.specs.LeafLayout.{pathCase, otherCases, leafBody, objectEnd}
 use Rattle.drawing.specs.Table.{wordsOf, leafKind, groupOwn, kindIn, startIn}
 use Rattle.drawing.specs.TableDrawing.{letterOf}
 use Rattle.drawing.specs.Order.{descriptionOf}
 use Rattle.questions.specs.RowBodies.{ownWords, RowBody}
-use Rattle.questions.specs.RowBodyLaws.{pair-words, group-own-words}
+use Rattle.questions.specs.RowBodyLaws.{pair-words}
 use Rattle.questions.specs.Places.{Here, Behind, here-behind, here-first}
 use Rattle.questions.specs.Rows.{EndsAt}
 
@@ -31,36 +32,36 @@ leaf-no-group (bitmap x) e = omega arith
 -- An object's own words before its end.
 abbrev pub frontWords : ℕ → Object → List ℕ
 frontWords v (leaf l d) = wordsOf (told (pathCase v) (otherCases v) (leafLetter l)) l
-frontWords v (group os d) = digits (2 ^ 32) 1 (length (listOf os))
+frontWords v (group os d) = wordsOf (field memberCount) (length (listOf os))
 
 pub front-words : (v : ℕ) (o : Object) → ownWords v o ≡ frontWords v o ++ wordsOf (objectEnd v) (descriptionOf o)
 front-words v (leaf l d) = pair-words (told (pathCase v) (otherCases v) (leafLetter l)) (objectEnd v) l d
-front-words v (group os d) = group-own-words v (length (listOf os)) d
+front-words v (group os d) = pair-words (field memberCount) (objectEnd v) (length (listOf os)) d
 
 module _ (c bs : List ℕ) (v r : ℕ) where
-  -- A leaf's body stands where its row says.
+  -- An object's own fields stand where its row says.
   body-here : (l : Leaf) (d : String) → RowBody c bs v r (leaf l d) → Here (leafBody v (leafLetter l)) bs (startIn c r) (l, d)
   body-here l d row = record { good = row .good; inside = omega (arith, row .inside); rest = row .rest; words-are = row .words-are }
+
+  own-here : (os : Objects) (d : String) → RowBody c bs v r (group os d) → Here (groupOwn v) bs (startIn c r) (length (listOf os), d)
+  own-here os d row = record { good = row .good; inside = omega (arith, row .inside); rest = row .rest; words-are = row .words-are }
 
   pub leaf-here : (l : Leaf) (d : String) → RowBody c bs v r (leaf l d) → Here (told (pathCase v) (otherCases v) (leafLetter l)) bs (startIn c r) l
   leaf-here l d row = here-first (told (pathCase v) (otherCases v) (leafLetter l)) (objectEnd v) (body-here l d row)
 
+  end-is : (o : Object) → startIn c r + length (ownWords v o) ≡ startIn c r + length (frontWords v o) + length (wordsOf (objectEnd v) (descriptionOf o))
+  end-is o = omega (arith, ap length (front-words v o), length-append (frontWords v o) (wordsOf (objectEnd v) (descriptionOf o)))
+
   pub ends : (o : Object) → RowBody c bs v r o → EndsAt c bs v r o (startIn c r + length (frontWords v o))
   ends (leaf l d) row =
-      record {
-        here = here-behind (body-here l d row) (frontWords v (leaf l d)) (objectEnd v) (front-words v (leaf l d)) (row .good .1);
-        end-is = omega (arith, ap length (front-words v (leaf l d)), length-append (frontWords v (leaf l d)) (wordsOf (objectEnd v) d));
-      }
+      record { here = here-behind (body-here l d row) (frontWords v (leaf l d)) (objectEnd v) (front-words v (leaf l d)) (row .good .1); end-is = end-is (leaf l d) }
   ends (group os d) row =
-      let own : Here (groupOwn v) bs (startIn c r) (length (listOf os), d) = record { good = row .good; inside = omega (arith, row .inside); rest = row .rest; words-are = row .words-are } in
-      record {
-        here = here-behind own (frontWords v (group os d)) (objectEnd v) (front-words v (group os d)) (row .good .1);
-        end-is = omega (arith, ap length (front-words v (group os d)), length-append (frontWords v (group os d)) (wordsOf (objectEnd v) d));
-      }
+      record { here = here-behind (own-here os d row) (frontWords v (group os d)) (objectEnd v) (front-words v (group os d)) (row .good .1); end-is = end-is (group os d) }
 
-  pub group-end : (o : Object) → RowBody c bs v r o → kindIn c r ≡ 1 → EndsAt c bs v r o (startIn c r + 1)
-  group-end (leaf l d) row is = absurd (leaf-no-group l (sym (row .kind-is) ∙ is))
-  group-end (group os d) row is = ends (group os d) row
+  pub group-end : (o : Object) → RowBody c bs v r o → kindIn c r ≡ 1 → {q : ℕ} → Behind (field memberCount) bs (startIn c r) q → EndsAt c bs v r o q
+  group-end (leaf l d) row is behind = absurd (leaf-no-group l (sym (row .kind-is) ∙ is))
+  group-end (group os d) row is behind =
+      subst (EndsAt c bs v r (group os d)) (sym (behind (length (listOf os)) (here-first (field memberCount) (objectEnd v) (own-here os d row)))) (ends (group os d) row)
 
   pub leaf-end : (o : Object) → RowBody c bs v r o → (kindIn c r ≡ 1 → ⊥) → {letter q : ℕ} → letter ≡ letterOf (kindIn c r)
       → Behind (told (pathCase v) (otherCases v) letter) bs (startIn c r) q → EndsAt c bs v r o q

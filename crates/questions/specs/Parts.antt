@@ -13,7 +13,7 @@ use Rattle.format.specs.FixedLayoutLaws.{parse-encoded}
 use Rattle.format.specs.Layout.{Layout, field, parse, _&_}
 use Rattle.drawing.specs.Codecs as Codecs
 use Rattle.drawing.specs.Codecs.{wordFields}
-use Rattle.drawing.specs.Fields.{byteIn}
+use Rattle.drawing.specs.Fields.{byteIn, memberCount}
 use Rattle.drawing.specs.String.{String, string}
 use Rattle.drawing.specs.Choices.{ifFlag}
 use Rattle.drawing.specs.Paint as P
@@ -26,10 +26,11 @@ use Rattle.passes.specs.declared.Pass.{Pass}
 use Rattle.passes.specs.Carries.{Laid}
 use Rattle.passes.specs.Landings.{Landed, Lands, lands}
 use Rattle.questions.specs.declared.Part.{Part}
-use Rattle.questions.specs.declared.Part.the-variants.{Leaf, Paint, PlainPaint, Font, Latex, BeforeAlternative}
+use Rattle.questions.specs.declared.Part.the-variants.{Count, Leaf, Paint, PlainPaint, Font, Latex, BeforeAlternative}
 use Rattle.questions.specs.Places.{Here, Passed}
 
 abbrev pub ValueOf : Part → Type 0
+ValueOf Count = ℕ
 ValueOf (Leaf letter) = O.Leaf
 ValueOf Paint = P.Paint
 ValueOf PlainPaint = P.Plain
@@ -39,6 +40,7 @@ ValueOf BeforeAlternative = String × (String × (String × (String × (ℕ × �
 
 -- The layout of a part, in a drawing of this version.
 abbrev pub layoutOf : (part : Part) → ℕ → Layout (ValueOf part)
+layoutOf Count v = field memberCount
 layoutOf (Leaf letter) v = told (pathCase v) (otherCases v) letter
 layoutOf Paint v = P.paint v
 layoutOf PlainPaint v = P.plainPaint v

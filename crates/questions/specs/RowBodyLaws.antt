@@ -1,7 +1,7 @@
 -- The laws of row bodies: each row of a drawing's table says where its object's own words stand, and what these are.
 use mathlib.Core.Path.{_≡_, refl, sym, ap, ap₂, _∙_}
 use mathlib.Core.Option.{none, some}
-use Prim.Native.Nat.{ℕ, zero, suc, _+_, _*_, _-_, _^_, _<_, _≤_}
+use Prim.Native.Nat.{ℕ, zero, suc, _+_, _*_, _-_, _<_, _≤_}
 use native.Mathlib.Nat.{zero-add, add-zero}
 use native.Mathlib.Omega.{arith}
 use mathlib.Core.List.{List, [], _∷_, _++_, append-nil, append-assoc}
@@ -10,7 +10,6 @@ use lib.Seq.{drop-drop, drop-append-seam, drop-cons, getD-drop}
 use mathlib.Core.Bool.{Bool, true, false}
 use lib.Dec.{eqb, leb}
 use borrow.Author.Tests.{lt-leb, le-leb}
-use Rattle.format.specs.Digits.{digits}
 use Rattle.format.specs.Kind.{Field}
 use Rattle.format.specs.Codec.{spellAll}
 use Rattle.format.specs.FixedCodec.{spellFixed}
@@ -197,9 +196,6 @@ spelled-append (f ∷ fs) gs =
 -- One part and then another.
 pub pair-words : {A B : Type 0} (f : Layout A) (g : Layout B) (a : A) (b : B) → wordsOf (f & g) (a, b) ≡ wordsOf f a ++ wordsOf g b
 pair-words f g a b = spelled-append (fields (f .format) a) (fields (g .format) b)
-
-pub group-own-words : (v n : ℕ) (d : String) → groupWords v n d ≡ digits (2 ^ 32) 1 n ++ wordsOf (objectEnd v) d
-group-own-words v n d = refl
 
 -- ---- strings, and the end of an object
 

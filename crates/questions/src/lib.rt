@@ -11,6 +11,8 @@ pub mod text;
 
 // A part of a body that is passed to find what stands behind it.
 pub enum Part {
+    // the count of a group's members
+    Count,
     // the fields of the leaf of this letter, before its end
     Leaf(u64),
     Paint,

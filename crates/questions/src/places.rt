@@ -1,5 +1,6 @@
 // The places of the parts of a body: each stands behind others, which are passed as the check passes them.
 use crate::Part;
+use kinds::numbers::count;
 use parts::object::leaf_parts;
 use parts::paint::paint;
 use parts::paint::plain_paint;
@@ -28,6 +29,10 @@ fn pass(
     ensures { λ r. ⌜ Carries (layoutOf part version) reverse (now (file .entry)) (now (words .entry)) (now (bodies .entry)) (now (out .entry)) (now (bodies .exit)) (now (out .exit)) p r ⌝ }
 {
     match part {
+        Part::Count => {
+            let counted = count(file, words, bodies, out, reverse, p, 1);
+            counted.pass
+        }
         Part::Leaf(letter) => leaf_parts(file, words, bodies, out, reverse, p, version, letter),
         Part::Paint => paint(file, words, bodies, out, reverse, p, version),
         Part::PlainPaint => plain_paint(file, words, bodies, out, reverse, p, version),

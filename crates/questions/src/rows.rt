@@ -12,7 +12,7 @@ pub fn end_of(contents: &[u32], words: &[u32], row: usize, version: u32) -> usiz
     let kind = contents[4 * row];
     let start = contents[4 * row + 2] as usize;
     if kind == 1 {
-        return start + 1;
+        return behind(words, start, version, Part::Count);
     }
     let letter = letter_of(kind);
     behind(words, start, version, Part::Leaf(letter))

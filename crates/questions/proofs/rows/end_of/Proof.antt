@@ -40,25 +40,25 @@ shared-slice-read-start c = search needs
 cast-start : tie.Need-cast-start
 cast-start c = search needs
 
--- src/rows.rt:15:16
-add-result : tie.Need-add-result
-add-result c = search needs
+-- src/rows.rt:15:9
+behind-requires : tie.Need-behind-requires
+behind-requires c κs = search needs
 
 -- src/rows.rt:15:9
 returns : tie.Need-returns
-returns c = λ o body. group-end (c .before .before .before .before .before .args .contents .now) (c .before .before .before .before .before .args .words .now) (c .before .before .before .before .before .args .version) (c .before .before .before .before .before .args .row) o body (c .if1 .taken)
+returns c = λ o body. group-end (c .before .before .before .before .before .before .args .contents .now) (c .before .before .before .before .before .before .args .words .now) (c .before .before .before .before .before .before .args .version) (c .before .before .before .before .before .before .args .row) o body (c .before .if1 .taken) (c .behind .ensures .is)
 
 -- src/rows.rt:17:9
 letter-of-requires : tie.Need-letter-of-requires
 letter-of-requires c κs = search needs
 
 -- src/rows.rt:18:5
-behind-requires : tie.Need-behind-requires
-behind-requires c κs = search needs
+behind-requires-2 : tie.Need-behind-requires-2
+behind-requires-2 c κs = search needs
 
 -- src/rows.rt:8:1
 returns-2 : tie.Need-returns-2
-returns-2 c = λ o body. leaf-end (c .before .before .before .before .before .before .before .args .contents .now) (c .before .before .before .before .before .before .before .args .words .now) (c .before .before .before .before .before .before .before .args .version) (c .before .before .before .before .before .before .before .args .row) o body (c .before .before .if1 .left) (c .before .letter-of .ensures .0) (c .behind .ensures .is)
+returns-2 c = λ o body. leaf-end (c .before .before .before .before .before .before .before .args .contents .now) (c .before .before .before .before .before .before .before .args .words .now) (c .before .before .before .before .before .before .before .args .version) (c .before .before .before .before .before .before .before .args .row) o body (c .before .before .if1 .left) (c .before .letter-of .ensures .0) (c .behind2 .ensures .is)
 
 pub end-of-spec : {M : Type 1} → statement M
 end-of-spec =
@@ -72,8 +72,8 @@ end-of-spec =
     mul-start-2
     shared-slice-read-start
     cast-start
-    add-result
+    behind-requires
     returns
     letter-of-requires
-    behind-requires
+    behind-requires-2
     returns-2)
