@@ -15,7 +15,7 @@ use Rattle.drawing.specs.Table.{wordsOf, leafKind, groupOwn, kindIn, startIn}
 use Rattle.drawing.specs.TableDrawing.{letterOf}
 use Rattle.drawing.specs.Order.{descriptionOf}
 use Rattle.questions.specs.RowBodies.{ownWords, RowBody}
-use Rattle.questions.specs.RowBodyLaws.{pair-words}
+use Rattle.questions.specs.WordLaws.{pair-words}
 use Rattle.questions.specs.Places.{Here, Behind, here-behind, here-first}
 use Rattle.questions.specs.Rows.{EndsAt}
 
@@ -41,10 +41,10 @@ front-words v (group os d) = pair-words (field memberCount) (objectEnd v) (lengt
 module _ (c bs : List ℕ) (v r : ℕ) where
   -- An object's own fields stand where its row says.
   body-here : (l : Leaf) (d : String) → RowBody c bs v r (leaf l d) → Here (leafBody v (leafLetter l)) bs (startIn c r) (l, d)
-  body-here l d row = record { good = row .good; inside = omega (arith, row .inside); rest = row .rest; words-are = row .words-are }
+  body-here l d row = record { good = row .good; rest = row .rest; stands = record { within = omega (arith, row .inside); words-are = row .words-are } }
 
   own-here : (os : Objects) (d : String) → RowBody c bs v r (group os d) → Here (groupOwn v) bs (startIn c r) (length (listOf os), d)
-  own-here os d row = record { good = row .good; inside = omega (arith, row .inside); rest = row .rest; words-are = row .words-are }
+  own-here os d row = record { good = row .good; rest = row .rest; stands = record { within = omega (arith, row .inside); words-are = row .words-are } }
 
   pub leaf-here : (l : Leaf) (d : String) → RowBody c bs v r (leaf l d) → Here (told (pathCase v) (otherCases v) (leafLetter l)) bs (startIn c r) l
   leaf-here l d row = here-first (told (pathCase v) (otherCases v) (leafLetter l)) (objectEnd v) (body-here l d row)

@@ -15,7 +15,7 @@ use Rattle.drawing.specs.Table.{wordsOf, startIn}
 use Rattle.drawing.specs.Order.{descriptionOf}
 use Rattle.laws.specs.EqualLaws.{equal-refl, equal-true}
 use Rattle.questions.specs.RowBodies.{ownWords, RowBody}
-use Rattle.questions.specs.RowBodyLaws.{end-words, end-words-early}
+use Rattle.questions.specs.WordLaws.{end-words, end-words-early}
 use Rattle.questions.specs.Rows.{EndsAt}
 use Rattle.questions.specs.EndLaws.{frontWords, front-words}
 
@@ -56,7 +56,7 @@ module _ (c bs : List ℕ) (v r : ℕ) (label : List ℕ) where
 
     module _ (behind : ℕ) (e : EndsAt c bs v r o behind) (from : ℕ) (from-is : from + length label ≡ startIn c r + length (ownWords v o)) where
       stands : drop behind bs ≡ (0 ∷ length (descriptionOf o) ∷ descriptionOf o) ++ e .here .rest
-      stands = e .here .words-are ∙ ap (λ l. l ++ e .here .rest) words-are
+      stands = e .here .stands .words-are ∙ ap (λ l. l ++ e .here .rest) words-are
 
       -- Where the label is as long as the description, these are its number and its chars.
       same-place : length (descriptionOf o) ≡ length label → from ≡ behind + 2

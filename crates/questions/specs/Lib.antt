@@ -1,7 +1,8 @@
 -- What rows say of their objects, and what is found by them.
+pub mod WordLaws
+pub mod Places
 pub mod RowBodies
 pub mod RowBodyLaws
-pub mod Places
 pub mod Parts
 pub mod Rows
 pub mod Entries

@@ -22,7 +22,8 @@ use Rattle.laws.specs.AnswerLaws.{take-overwrite}
 use Rattle.laws.specs.EntryLaws.{entries-are, entries-increasing, entries-length-le}
 use Rattle.laws.specs.OrderLaws.{leads}
 use Rattle.laws.specs.TableLaws.{drawing-of-table}
-use Rattle.questions.specs.RowBodyLaws.{row-body, version-word, end-words-early}
+use Rattle.questions.specs.RowBodyLaws.{row-body, version-word}
+use Rattle.questions.specs.WordLaws.{end-words-early}
 use Rattle.questions.specs.LabelLaws.{end-good}
 use Rattle.questions.specs.Entries.{TableHere, Enters}
 use Rattle.questions.specs.EntryLaws.{rows-small, same-drawing}

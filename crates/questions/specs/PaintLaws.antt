@@ -153,7 +153,7 @@ plain-stands v {ws} {at} p rest inside good stands =
 
 pub plain-is : (v : ℕ) {ws : List ℕ} {at : ℕ} {p : P.Plain} → Here (P.plainPaint v) ws at p → PlainIs ws at p
 plain-is v {p = p} here =
-    plain-stands v p (here .rest) (here .inside) (here .good .1) (here .words-are ∙ ap (λ w. w ∷ (wordsOf (plainParts v p) p ++ here .rest)) (one-word (P.plainLetter p) (omega (arith, here .good .0 .fits))))
+    plain-stands v p (here .rest) (here .stands .within) (here .good .1) (here .stands .words-are ∙ ap (λ w. w ∷ (wordsOf (plainParts v p) p ++ here .rest)) (one-word (P.plainLetter p) (omega (arith, here .good .0 .fits))))
 
 -- ---- paints, by their letters
 
@@ -271,5 +271,5 @@ module _ (v : ℕ) {ws : List ℕ} {at : ℕ} where
   paint-is-plain (P.plain p) here g d =
       let same = as-plain v p in (
         p,
-        (refl, plain-stands v p (here .rest) (here .inside) (same .good (here .good .1)) (here .words-are ∙ ap₂ {C = List ℕ} (λ w l. w ∷ (l ++ here .rest)) (one-word (P.plainLetter p) (omega (arith, here .good .0 .fits))) (same .words))),
+        (refl, plain-stands v p (here .rest) (here .stands .within) (same .good (here .good .1)) (here .stands .words-are ∙ ap₂ {C = List ℕ} (λ w l. w ∷ (l ++ here .rest)) (one-word (P.plainLetter p) (omega (arith, here .good .0 .fits))) (same .words))),
       )

@@ -58,7 +58,7 @@ passed {A} L {ws} {m} {m′} {p} {r} below going laid = record { is = is; inside
   where
     is : (a : A) → Here L ws (p .at) a → r .at ≡ p .at + length (wordsOf L a)
     is a here =
-        let parsed : parse Codecs.words L (drop (p .at) ws) ≡ found a (here .rest) = ap (parse Codecs.words L) (here .words-are) ∙ parse-encoded wordFields words-sensible words-literal L a (here .good) (here .rest) in
-        let landed : Landed L true ws m m′ p r a (here .rest) = subst (Lands L true ws m m′ p r) parsed (lands L true below going (here .inside) laid) in
-        let long : length ws - p .at ≡ length (wordsOf L a) + length (here .rest) = sym (length-drop (p .at) ws) ∙ ap length (here .words-are) ∙ length-append (wordsOf L a) (here .rest) in
-        omega (arith, landed .at-is, here .inside)
+        let parsed : parse Codecs.words L (drop (p .at) ws) ≡ found a (here .rest) = ap (parse Codecs.words L) (here .stands .words-are) ∙ parse-encoded wordFields words-sensible words-literal L a (here .good) (here .rest) in
+        let landed : Landed L true ws m m′ p r a (here .rest) = subst (Lands L true ws m m′ p r) parsed (lands L true below going (here .stands .within) laid) in
+        let long : length ws - p .at ≡ length (wordsOf L a) + length (here .rest) = sym (length-drop (p .at) ws) ∙ ap length (here .stands .words-are) ∙ length-append (wordsOf L a) (here .rest) in
+        omega (arith, landed .at-is, here .stands .within)
