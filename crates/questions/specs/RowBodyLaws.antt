@@ -6,7 +6,7 @@ use native.Mathlib.Nat.{zero-add, add-zero}
 use native.Mathlib.Omega.{arith}
 use mathlib.Core.List.{List, [], _∷_, _++_, append-nil, append-assoc}
 use lib.ListN.{length, getD, drop, getElem?, length-append, drop-of-length-le}
-use lib.Seq.{drop-drop, drop-append-seam, drop-cons, getD-drop}
+use lib.Seq.{drop-append-seam, drop-cons, getD-drop}
 use Rattle.drawing.specs.Limits.{depthLimit}
 use Rattle.drawing.specs.String.{String}
 use Rattle.drawing.specs.Object.{Object, leaf, group, Objects, none, more, listOf}
@@ -18,7 +18,7 @@ use Rattle.drawing.specs.Answers.{rowsOf}
 use Rattle.laws.specs.ObjectGood.{good-leaf, good-group, no-group}
 use Rattle.laws.specs.FileGood.{file-parts}
 use Rattle.laws.specs.WalkComplete.{AllGood}
-use Rattle.laws.specs.OrderLaws.{rows-preorder, contents-length, shift}
+use Rattle.laws.specs.OrderLaws.{rows-preorder, contents-length, Each, each-append, each-at, beyond}
 use Rattle.questions.specs.Places.{Stands, stands-long, stands-first, stands-next}
 use Rattle.questions.specs.RowBodies.{ownWords, objectKind, OwnGood, RowBody}
 
@@ -55,26 +55,7 @@ version-word c bs d t = ap (λ l. getD l 0 0) (t .bodies-are)
 
 -- ---- rows and bodies
 
--- What holds of each place of a list, of which the first has this number.
-abbrev Each : {A : Type 0} → (ℕ → A → Type 0) → ℕ → List A → Type 0
-Each P n [] = Unit {0}
-Each P n (x ∷ xs) = P n x × Each P (suc n) xs
-
-module _ {A : Type 0} (P : ℕ → A → Type 0) where
-  each-append : (xs ys : List A) (n : ℕ) → Each P n xs → Each P (n + length xs) ys → Each P n (xs ++ ys)
-  each-append [] ys n p q = rw add-zero at q
-  each-append (x ∷ xs) ys n p q = (p .0, each-append xs ys (suc n) (p .1) (rw shift at q))
-
-  each-at : (xs : List A) (n i : ℕ) (z : A) → i < length xs → Each P n xs → P (n + i) (getD xs i z)
-  each-at [] n i z h p = absurd (omega arith)
-  each-at (x ∷ xs) n zero z h p = rw add-zero (p .0)
-  each-at (x ∷ xs) n (suc i) z h p = rw shift (each-at xs (suc n) i z (omega arith) (p .1))
-
 module _ (v : ℕ) (C B : List ℕ) where
-  -- What comes behind the words of some rows, where these stand at their place.
-  beyond : (xs ys : List ℕ) (own next : ℕ) → 4 * own + length xs ≡ 4 * next → drop (4 * own) C ≡ xs ++ ys → drop (4 * next) C ≡ ys
-  beyond xs ys own next l e = rw (← l, ← drop-drop, e) (drop-append-seam xs ys)
-
   -- One row and the words that it tells of.
   says : {p at : ℕ} {behind rest : List ℕ} (own : ℕ) (o : Object)
       → drop (4 * own) C ≡ objectKind o ∷ p ∷ at ∷ length (ownWords v o) ∷ behind
@@ -99,7 +80,7 @@ module _ (v : ℕ) (C B : List ℕ) where
   group-rows os d p own at behind rest g e s members =
       let words = groupWords v (length (listOf os)) d in
       let inner = stands-first (bodiesAll os v) words s in
-      let f = beyond (_ ∷ _ ∷ _ ∷ _ ∷ []) (contentsAll os v own (suc own) at ++ behind) own (suc own) (omega arith) e in
+      let f = beyond v C (_ ∷ _ ∷ _ ∷ _ ∷ []) (contentsAll os v own (suc own) at ++ behind) own (suc own) (omega arith) e in
       (says own (group os d) e (stands-next (bodiesAll os v) words s) g, members f inner)
 
   -- Where an object's rows and bodies stand at their places, each of its rows says what it should.
@@ -123,7 +104,7 @@ module _ (v : ℕ) (C B : List ℕ) where
         let others = contentsAll os v p next after in
         let e′ : drop (4 * own) C ≡ here ++ (others ++ behind) = rw append-assoc at e in
         let l = contents-length o v p own at in
-        let f = beyond here (others ++ behind) own next (omega arith) e′ in
+        let f = beyond v C here (others ++ behind) own next (omega arith) e′ in
         let first = stands-first (bodies o v) (bodiesAll os v) s in
         each-append (RowBody C B v) (preorder o) (preorderAll os) own
         (each-object o deep p own at (others ++ behind) (bodiesAll os v ++ rest) (g .0) e′ first)

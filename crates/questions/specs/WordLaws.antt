@@ -1,14 +1,12 @@
 -- The words of layouts: of two parts, of a string, and of the end of an object.
-use mathlib.Core.Path.{_≡_, refl, sym, ap, ap₂, _∙_}
+use mathlib.Core.Path.{_≡_, refl, ap, ap₂}
 use Prim.Native.Nat.{ℕ, zero, suc, _-_, _<_, _≤_}
 use native.Mathlib.Omega.{arith}
-use mathlib.Core.List.{List, [], _∷_, _++_, append-assoc}
+use mathlib.Core.List.{List, [], _∷_, _++_}
 use lib.ListN.{length}
 use mathlib.Core.Bool.{Bool, true, false}
 use lib.Dec.{eqb, leb}
 use borrow.Author.Tests.{lt-leb, le-leb}
-use Rattle.format.specs.Kind.{Field}
-use Rattle.format.specs.Codec.{spellAll}
 use Rattle.format.specs.FixedCodec.{spellFixed}
 use Rattle.format.specs.Format.{fields}
 use Rattle.format.specs.Layout.{Layout, field, when, threaded, _&_}
@@ -17,20 +15,12 @@ use Rattle.drawing.specs.Fields.{stringChar}
 use Rattle.drawing.specs.String.{String, string}
 use Rattle.drawing.specs.LeafLayout.{objectEnd}
 use Rattle.drawing.specs.Table.{wordsOf}
+use Rattle.laws.specs.ObjectBytes.{spelled-append}
 use Rattle.laws.specs.WalkComplete.{one-word}
-
-abbrev spelled : List Field → List ℕ
-spelled fs = spellAll (spellFixed wordFields) fs
-
-spelled-append : (fs gs : List Field) → spelled (fs ++ gs) ≡ spelled fs ++ spelled gs
-spelled-append [] gs = refl
-spelled-append (f ∷ fs) gs =
-    let here = spellFixed wordFields (f .kind) (f .value) in
-    ap (λ l. here ++ l) (spelled-append fs gs) ∙ sym (append-assoc here (spelled fs) (spelled gs))
 
 -- One part and then another.
 pub pair-words : {A B : Type 0} (f : Layout A) (g : Layout B) (a : A) (b : B) → wordsOf (f & g) (a, b) ≡ wordsOf f a ++ wordsOf g b
-pair-words f g a b = spelled-append (fields (f .format) a) (fields (g .format) b)
+pair-words f g a b = spelled-append (spellFixed wordFields) (fields (f .format) a) (fields (g .format) b)
 
 -- ---- strings, and the end of an object
 
