@@ -16,7 +16,8 @@ use Rattle.drawing.specs.TableDrawing.{letterOf}
 use Rattle.drawing.specs.Order.{descriptionOf}
 use Rattle.questions.specs.RowBodies.{ownWords, RowBody}
 use Rattle.questions.specs.WordLaws.{pair-words}
-use Rattle.questions.specs.Places.{Here, Behind, here-behind, here-first}
+use Rattle.questions.specs.Places.{Here, Behind}
+use Rattle.questions.specs.PlaceLaws.{here-behind, here-first}
 use Rattle.questions.specs.Rows.{EndsAt}
 
 letter-of-leaf : (l : Leaf) → letterOf (leafKind l) ≡ leafLetter l

@@ -1,9 +1,11 @@
 -- What rows say of their objects, and what is found by them.
 pub mod WordLaws
 pub mod Places
+pub mod PlaceLaws
 pub mod RowBodies
 pub mod RowBodyLaws
 pub mod Parts
+pub mod PartLaws
 pub mod Rows
 pub mod Entries
 pub mod EntryLaws

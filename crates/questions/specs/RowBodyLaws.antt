@@ -19,7 +19,8 @@ use Rattle.laws.specs.ObjectGood.{good-leaf, good-group, no-group}
 use Rattle.laws.specs.FileGood.{file-parts}
 use Rattle.laws.specs.WalkComplete.{AllGood}
 use Rattle.laws.specs.OrderLaws.{rows-preorder, contents-length, Each, each-append, each-at, beyond}
-use Rattle.questions.specs.Places.{Stands, stands-long, stands-first, stands-next}
+use Rattle.questions.specs.Places.{Stands}
+use Rattle.questions.specs.PlaceLaws.{stands-long, stands-first, stands-next}
 use Rattle.questions.specs.RowBodies.{ownWords, objectKind, OwnGood, RowBody}
 
 -- ---- objects by their rows

@@ -25,7 +25,8 @@ use Rattle.drawing.specs.Questions.{orRefusal, leafPart, span, alternativeSpan,
 use Rattle.questions.specs.declared.Part.the-variants.{BeforeAlternative}
 use Rattle.questions.specs.RowBodies.{RowBody}
 use Rattle.questions.specs.WordLaws.{string-words}
-use Rattle.questions.specs.Places.{Here, Behind, Holds, here-as, here-behind, first-word, here-first, here-next, here-later, next-ends}
+use Rattle.questions.specs.Places.{Here, Behind, Holds}
+use Rattle.questions.specs.PlaceLaws.{here-as, here-behind, first-word, here-first, here-next, here-later, next-ends}
 use Rattle.questions.specs.Parts.{layoutOf}
 use Rattle.questions.specs.EndLaws.{leaf-here}
 use Rattle.questions.specs.TextQuestion.{noText, CharsRead, alternativeIn, AlternativeRead}

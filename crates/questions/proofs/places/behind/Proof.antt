@@ -1,5 +1,6 @@
 -- `questions::places::behind` meets its contract.
-use Rattle.questions.specs.Parts.{layoutOf, passed}
+use Rattle.questions.specs.Parts.{layoutOf}
+use Rattle.questions.specs.PartLaws.{passed}
 use Rattle.format.specs.LeafLaws.{known-below}
 use mir.Syntax.{w32}
 use mathlib.Core.Path.{refl}

@@ -1,5 +1,5 @@
 -- `questions::places::pass` meets its contract.
-use Rattle.questions.specs.Parts.{this-part}
+use Rattle.questions.specs.PartLaws.{this-part}
 use Rattle.passes.specs.LayoutLaws.{field-laid}
 use borrow.Author.Needs.{needs}
 use Rattle.questions.proofs.places.pass.Statement.{statement}
