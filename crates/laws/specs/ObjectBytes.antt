@@ -6,7 +6,7 @@ use mathlib.Core.List.{List, [], _∷_, _++_, append-assoc}
 use lib.ListN.{length}
 use Rattle.format.specs.Digits.{digits}
 use Rattle.format.specs.Kind.{Field}
-use Rattle.format.specs.Codec.{spellAll}
+use Rattle.format.specs.Codec.{Spelling, spellAll}
 use Rattle.format.specs.FixedCodec.{spellFixed}
 use Rattle.format.specs.Format.{fields}
 use Rattle.format.specs.Layout.{Layout, repeat, encode}
@@ -25,19 +25,17 @@ use Rattle.drawing.specs.Drawing.{Drawing, fileOf}
 abbrev pub bytesOf : {A : Type 0} → Layout A → A → List ℕ
 bytesOf L a = encode (spellFixed byteFields) L a
 
-abbrev spelled : List Field → List ℕ
-spelled fs = spellAll (spellFixed byteFields) fs
-
-spelled-append : (fs gs : List Field) → spelled (fs ++ gs) ≡ spelled fs ++ spelled gs
-spelled-append [] gs = refl
-spelled-append (f ∷ fs) gs =
-    let here = spellFixed byteFields (f .kind) (f .value) in
-    ap (λ l. here ++ l) (spelled-append fs gs) ∙ sym (append-assoc here (spelled fs) (spelled gs))
+-- Fields are spelled one behind the other.
+pub spelled-append : (spell : Spelling) (fs gs : List Field) → spellAll spell (fs ++ gs) ≡ spellAll spell fs ++ spellAll spell gs
+spelled-append spell [] gs = refl
+spelled-append spell (f ∷ fs) gs =
+    let here = spell (f .kind) (f .value) in
+    ap (λ l. here ++ l) (spelled-append spell fs gs) ∙ sym (append-assoc here (spellAll spell fs) (spellAll spell gs))
 
 -- ---- repeated parts: how many a layout says there are is not in its bytes
 
 pub many-bytes : {A : Type 0} (L : Layout A) (m n : ℕ) (a : A) (as′ : List A) → bytesOf (repeat m L) (a ∷ as′) ≡ bytesOf L a ++ bytesOf (repeat n L) as′
-many-bytes L m n a as′ = spelled-append (fields (L .format) a) (fields (repeat n L .format) as′)
+many-bytes L m n a as′ = spelled-append (spellFixed byteFields) (fields (L .format) a) (fields (repeat n L .format) as′)
 
 pub many-append : {A : Type 0} (L : Layout A) (m n k : ℕ) (as′ bs : List A)
     → bytesOf (repeat m L) (as′ ++ bs) ≡ bytesOf (repeat n L) as′ ++ bytesOf (repeat k L) bs
@@ -60,7 +58,7 @@ module _ (v deep : ℕ) (os : Objects) (d : String) (n : ℕ) where
   -- Behind a group's id: its count, its members, and its own end.
   pub group-body-bytes : bytesOf (groupBody v (object v deep)) (os, d) ≡ digits 256 4 (length (listOf os)) ++ (bytesOf (repeat n (object v deep)) (listOf os) ++ bytesOf (objectEnd v) d)
   group-body-bytes =
-      ap (λ l. digits 256 4 (length (listOf os)) ++ l) (spelled-append (fields (repeat n (object v deep) .format) (listOf os)) (fields (objectEnd v .format) d))
+      ap (λ l. digits 256 4 (length (listOf os)) ++ l) (spelled-append (spellFixed byteFields) (fields (repeat n (object v deep) .format) (listOf os)) (fields (objectEnd v .format) d))
 
   pub group-bytes : bytesOf (object v (suc deep)) (group os d)
       ≡ digits 256 2 (code "G") ++ (digits 256 4 (length (listOf os)) ++ (bytesOf (repeat n (object v deep)) (listOf os) ++ bytesOf (objectEnd v) d))
@@ -77,4 +75,4 @@ pub file-bytes : (d : Drawing)
     ++ (digits 256 2 (code "G") ++ bytesOf (groupBody (d .version) (object (d .version) (depthLimit - 1))) (d .members, d .description)))))
 file-bytes d =
     ap (λ l. digits 256 6 jdr ++ (digits 256 4 3 ++ (digits 256 6 (versionZero + d .version) ++ l)))
-    (spelled-append (fields (settings (d .version) .format) (d .settings)) _)
+    (spelled-append (spellFixed byteFields) (fields (settings (d .version) .format) (d .settings)) _)

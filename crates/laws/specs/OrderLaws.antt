@@ -46,18 +46,18 @@ mutual
 -- ---- parents
 
 -- What holds of each place of a list, of which the first has this number.
-abbrev Each : {A : Type 0} → (ℕ → A → Type 0) → ℕ → List A → Type 0
+abbrev pub Each : {A : Type 0} → (ℕ → A → Type 0) → ℕ → List A → Type 0
 Each P n [] = Unit {0}
 Each P n (x ∷ xs) = P n x × Each P (suc n) xs
 
 pub shift : (n i : ℕ) → n + suc i ≡ suc n + i
 shift n i = omega arith
 
-each-append : {A : Type 0} (P : ℕ → A → Type 0) (xs ys : List A) (n : ℕ) → Each P n xs → Each P (n + length xs) ys → Each P n (xs ++ ys)
+pub each-append : {A : Type 0} (P : ℕ → A → Type 0) (xs ys : List A) (n : ℕ) → Each P n xs → Each P (n + length xs) ys → Each P n (xs ++ ys)
 each-append P [] ys n p q = rw add-zero at q
 each-append P (x ∷ xs) ys n p q = (p .0, each-append P xs ys (suc n) (p .1) (rw shift at q))
 
-each-at : {A : Type 0} (P : ℕ → A → Type 0) (xs : List A) (n i : ℕ) (z : A) → i < length xs → Each P n xs → P (n + i) (getD xs i z)
+pub each-at : {A : Type 0} (P : ℕ → A → Type 0) (xs : List A) (n i : ℕ) (z : A) → i < length xs → Each P n xs → P (n + i) (getD xs i z)
 each-at P [] n i z h p = absurd (omega arith)
 each-at P (x ∷ xs) n zero z h p = rw add-zero (p .0)
 each-at P (x ∷ xs) n (suc i) z h p = rw shift (each-at P xs (suc n) i z (omega arith) (p .1))
@@ -69,7 +69,7 @@ record Led (C : List ℕ) (r : ℕ) (around : List ℕ) : Type 0 where
 
 module _ (v : ℕ) (C : List ℕ) where
   -- What comes behind the words of some rows, where these stand at their place.
-  beyond : (xs ys : List ℕ) (own next : ℕ) → 4 * own + length xs ≡ 4 * next → drop (4 * own) C ≡ xs ++ ys → drop (4 * next) C ≡ ys
+  pub beyond : (xs ys : List ℕ) (own next : ℕ) → 4 * own + length xs ≡ 4 * next → drop (4 * own) C ≡ xs ++ ys → drop (4 * next) C ≡ ys
   beyond xs ys own next l e = rw (← l, ← drop-drop, e) (drop-append-seam xs ys)
 
   -- One step outwards, from a row to its parent.

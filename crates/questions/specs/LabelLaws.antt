@@ -1,25 +1,23 @@
 -- Whether a row's object has a label: told by the last words of its body, and by where its end begins.
 use mathlib.Core.Path.{_≡_, refl, sym, ap, _∙_}
 use mathlib.Core.Bool.{Bool, true, false, false≢true}
-use Prim.Native.Nat.{ℕ, suc, _+_, _-_, _^_, _<_, _≤_}
+use Prim.Native.Nat.{ℕ, suc, _+_, _-_, _<_, _≤_}
 use native.Mathlib.Omega.{arith}
-use mathlib.Core.List.{List, [], _∷_, _++_, append-assoc}
+use mathlib.Core.List.{List, [], _∷_, _++_}
 use lib.Dec.{eqb}
 use lib.ListN.{length, take, drop, getD, length-append}
-use lib.Seq.{drop-at, drop-drop, getD-drop, take-at}
+use lib.Seq.{drop-drop, getD-drop, take-at}
 use borrow.Author.Tests.{ne-eqb, eqb-true, eqb-false}
-use Rattle.format.specs.Alternative.{told}
-use Rattle.format.specs.Digits.{digits}
 use Rattle.drawing.specs.String.{equal}
-use Rattle.drawing.specs.Object.{Object, leaf, group, listOf}
-use Rattle.drawing.specs.ObjectId.{leafLetter}
-use Rattle.drawing.specs.LeafLayout.{pathCase, otherCases, objectEnd}
+use Rattle.drawing.specs.Object.{Object, leaf, group}
+use Rattle.drawing.specs.LeafLayout.{objectEnd}
 use Rattle.drawing.specs.Table.{wordsOf, startIn}
 use Rattle.drawing.specs.Order.{descriptionOf}
 use Rattle.laws.specs.EqualLaws.{equal-refl, equal-true}
 use Rattle.questions.specs.RowBodies.{ownWords, RowBody}
-use Rattle.questions.specs.RowBodyLaws.{leaf-words, group-own-words, end-words, end-words-early}
+use Rattle.questions.specs.WordLaws.{end-words, end-words-early}
 use Rattle.questions.specs.Rows.{EndsAt}
+use Rattle.questions.specs.EndLaws.{frontWords, front-words}
 
 equal-not : (xs ys : List ℕ) → (xs ≡ ys → ⊥) → false ≡ equal xs ys
 equal-not xs ys other = by (equal xs ys) refl
@@ -32,26 +30,6 @@ equal-not xs ys other = by (equal xs ys) refl
 pub end-good : (c bs : List ℕ) (v r : ℕ) (o : Object) → RowBody c bs v r o → objectEnd v .Good (descriptionOf o)
 end-good c bs v r (leaf l d) row = row .good .1
 end-good c bs v r (group os d) row = row .good .1
-
--- An object's own words are some fields and then its end.
-own-split : (v : ℕ) (o : Object) → (front : List ℕ) × (ownWords v o ≡ front ++ wordsOf (objectEnd v) (descriptionOf o))
-own-split v (leaf l d) = (wordsOf (told (pathCase v) (otherCases v) (leafLetter l)) l, leaf-words v l d)
-own-split v (group os d) = (digits (2 ^ 32) 1 (length (listOf os)), group-own-words v (length (listOf os)) d)
-
--- So the end stands somewhere.
-pub some-end : (c bs : List ℕ) (v r : ℕ) (o : Object) → RowBody c bs v r o → (behind : ℕ) × EndsAt c bs v r o behind
-some-end c bs v r o row =
-    let front = own-split v o .0 in
-    let W = wordsOf (objectEnd v) (descriptionOf o) in
-    let stands : drop (startIn c r) bs ≡ front ++ (W ++ row .rest) = row .words-are ∙ ap (λ l. l ++ row .rest) (own-split v o .1) ∙ append-assoc front W (row .rest) in
-    let long : length (ownWords v o) ≡ length front + length W = ap length (own-split v o .1) ∙ length-append front W in (
-      startIn c r + length front,
-      record {
-        rest = row .rest;
-        there = sym (drop-drop (length front) (startIn c r) bs) ∙ ap (drop (length front)) stands ∙ drop-at front (W ++ row .rest) (length front) refl;
-        end-is = omega (arith, long);
-      },
-    )
 
 module _ (c bs : List ℕ) (v r : ℕ) (label : List ℕ) where
   -- Below 1.2 every description is empty.
@@ -70,15 +48,15 @@ module _ (c bs : List ℕ) (v r : ℕ) (label : List ℕ) where
     size : length (wordsOf (objectEnd v) (descriptionOf o)) ≡ 2 + length (descriptionOf o)
     size = ap length words-are ∙ omega arith
 
-    own-long : length (ownWords v o) ≡ length (own-split v o .0) + length (wordsOf (objectEnd v) (descriptionOf o))
-    own-long = ap length (own-split v o .1) ∙ length-append (own-split v o .0) (wordsOf (objectEnd v) (descriptionOf o))
+    own-long : length (ownWords v o) ≡ length (frontWords v o) + length (wordsOf (objectEnd v) (descriptionOf o))
+    own-long = ap length (front-words v o) ∙ length-append (frontWords v o) (wordsOf (objectEnd v) (descriptionOf o))
 
     pub two-words : 2 ≤ length (ownWords v o)
     two-words = omega (arith, size, own-long)
 
     module _ (behind : ℕ) (e : EndsAt c bs v r o behind) (from : ℕ) (from-is : from + length label ≡ startIn c r + length (ownWords v o)) where
-      stands : drop behind bs ≡ (0 ∷ length (descriptionOf o) ∷ descriptionOf o) ++ e .rest
-      stands = e .there ∙ ap (λ l. l ++ e .rest) words-are
+      stands : drop behind bs ≡ (0 ∷ length (descriptionOf o) ∷ descriptionOf o) ++ e .here .rest
+      stands = e .here .stands .words-are ∙ ap (λ l. l ++ e .here .rest) words-are
 
       -- Where the label is as long as the description, these are its number and its chars.
       same-place : length (descriptionOf o) ≡ length label → from ≡ behind + 2
@@ -88,7 +66,7 @@ module _ (c bs : List ℕ) (v r : ℕ) (label : List ℕ) where
       chars-there same =
           ap (λ n. take (length label) (drop n bs)) (same-place same)
           ∙ ap (take (length label)) (sym (drop-drop 2 behind bs) ∙ ap (drop 2) stands)
-          ∙ take-at (descriptionOf o) (e .rest) (length label) same
+          ∙ take-at (descriptionOf o) (e .here .rest) (length label) same
 
       number-there : length (descriptionOf o) ≡ length label → getD bs (from - 1) 0 ≡ length label
       number-there same =

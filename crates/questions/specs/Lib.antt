@@ -1,6 +1,11 @@
 -- What rows say of their objects, and what is found by them.
+pub mod WordLaws
+pub mod Places
+pub mod PlaceLaws
 pub mod RowBodies
 pub mod RowBodyLaws
+pub mod Parts
+pub mod PartLaws
 pub mod Rows
 pub mod Entries
 pub mod EntryLaws
@@ -8,15 +13,10 @@ pub mod Lists
 pub mod CharLaws
 pub mod EndLaws
 pub mod LabelLaws
-pub mod Places
-pub mod PaintQuestion
-pub mod PaintPlaceLaws
-pub mod PaintWordLaws
 pub mod RowQuestions
 pub mod ListLaws
+pub mod PaintQuestion
+pub mod PaintLaws
 pub mod TextQuestion
-pub mod TextPlaceLaws
-pub mod TextWordLaws
-pub mod TextBodyLaws
+pub mod TextLaws
 pub mod PaintQuestionLaws
-pub mod TextQuestionLaws

@@ -2,7 +2,6 @@
 use mathlib.Core.Path.{_≡_, refl, sym, ap, ap₂, subst, _∙_}
 use mathlib.Core.Option.{Option, none, some}
 use Prim.Native.Nat.{ℕ, _+_, _^_, _<_, _≤_}
-use native.Mathlib.Nat as Nat
 use native.Mathlib.Omega.{arith}
 use mathlib.Core.List.{List, [], _++_}
 use lib.Dec.{leb}
@@ -22,7 +21,8 @@ use Rattle.laws.specs.AnswerLaws.{take-overwrite}
 use Rattle.laws.specs.EntryLaws.{entries-are, entries-increasing, entries-length-le}
 use Rattle.laws.specs.OrderLaws.{leads}
 use Rattle.laws.specs.TableLaws.{drawing-of-table}
-use Rattle.questions.specs.RowBodyLaws.{row-body, version-word, end-words-early}
+use Rattle.questions.specs.RowBodyLaws.{row-body, version-word}
+use Rattle.questions.specs.WordLaws.{end-words-early}
 use Rattle.questions.specs.LabelLaws.{end-good}
 use Rattle.questions.specs.Entries.{TableHere, Enters}
 use Rattle.questions.specs.EntryLaws.{rows-small, same-drawing}

@@ -1,44 +1,26 @@
 -- The laws of row bodies: each row of a drawing's table says where its object's own words stand, and what these are.
-use mathlib.Core.Path.{_≡_, refl, sym, ap, ap₂, _∙_}
+use mathlib.Core.Path.{_≡_, refl, sym, ap, _∙_}
 use mathlib.Core.Option.{none, some}
-use Prim.Native.Nat.{ℕ, zero, suc, _+_, _*_, _-_, _^_, _<_, _≤_}
-use Prim.Native.Char.{code}
+use Prim.Native.Nat.{ℕ, zero, suc, _+_, _*_, _-_, _<_, _≤_}
 use native.Mathlib.Nat.{zero-add, add-zero}
 use native.Mathlib.Omega.{arith}
 use mathlib.Core.List.{List, [], _∷_, _++_, append-nil, append-assoc}
-use lib.ListN.{length, getD, drop, getElem?, length-append, length-drop, drop-of-length-le}
-use lib.Seq.{drop-drop, drop-append-seam, drop-cons, getD-drop}
-use mathlib.Core.Bool.{Bool, true, false}
-use lib.Dec.{eqb, leb}
-use borrow.Author.Tests.{lt-leb, le-leb}
-use Rattle.format.specs.Digits.{digits}
-use Rattle.format.specs.Kind.{Field}
-use Rattle.format.specs.Codec.{spellAll}
-use Rattle.format.specs.FixedCodec.{spellFixed}
-use Rattle.format.specs.Format.{fields}
-use Rattle.format.specs.Layout.{Layout, field, when, threaded, _&_}
-use Rattle.format.specs.Alternative.{told}
-use Rattle.drawing.specs.Codecs.{wordFields}
-use Rattle.drawing.specs.Fields.{stringChar, charWhere, oneOfChars, byteIn}
+use lib.ListN.{length, getD, drop, getElem?, length-append, drop-of-length-le}
+use lib.Seq.{drop-append-seam, drop-cons, getD-drop}
 use Rattle.drawing.specs.Limits.{depthLimit}
-use Rattle.drawing.specs.String.{String, string}
-use Rattle.drawing.specs.Choices.{ifFlag}
-use Rattle.drawing.specs.Paint as P
-use Rattle.drawing.specs.LineStyle.{lineStyle}
-use Rattle.drawing.specs.Path.{Point, Segment, Path, outline}
-use Rattle.drawing.specs.Text as T
-use Rattle.drawing.specs.Object.{Leaf, path, text, Object, leaf, group, Objects, none, more, listOf}
-use Rattle.drawing.specs.ObjectId.{leafLetter}
-use Rattle.drawing.specs.LeafLayout.{pathCase, otherCases, objectEnd}
+use Rattle.drawing.specs.String.{String}
+use Rattle.drawing.specs.Object.{Object, leaf, group, Objects, none, more, listOf}
 use Rattle.drawing.specs.ObjectLayout.{object}
 use Rattle.drawing.specs.Drawing.{Drawing, outer}
-use Rattle.drawing.specs.Table.{wordsOf, leafWords, groupWords, rows, bodies, bodiesAll, contents, contentsAll, headWords, contentsOf, IsTable}
+use Rattle.drawing.specs.Table.{groupWords, rows, bodies, bodiesAll, contents, contentsAll, headWords, contentsOf, IsTable}
 use Rattle.drawing.specs.Order.{preorder, preorderAll, objectsOf}
 use Rattle.drawing.specs.Answers.{rowsOf}
 use Rattle.laws.specs.ObjectGood.{good-leaf, good-group, no-group}
 use Rattle.laws.specs.FileGood.{file-parts}
-use Rattle.laws.specs.WalkComplete.{AllGood, one-word}
-use Rattle.laws.specs.OrderLaws.{rows-preorder, contents-length, shift}
+use Rattle.laws.specs.WalkComplete.{AllGood}
+use Rattle.laws.specs.OrderLaws.{rows-preorder, contents-length, Each, each-append, each-at, beyond}
+use Rattle.questions.specs.Places.{Stands}
+use Rattle.questions.specs.PlaceLaws.{stands-long, stands-first, stands-next}
 use Rattle.questions.specs.RowBodies.{ownWords, objectKind, OwnGood, RowBody}
 
 -- ---- objects by their rows
@@ -74,51 +56,11 @@ version-word c bs d t = ap (λ l. getD l 0 0) (t .bodies-are)
 
 -- ---- rows and bodies
 
--- What holds of each place of a list, of which the first has this number.
-abbrev Each : {A : Type 0} → (ℕ → A → Type 0) → ℕ → List A → Type 0
-Each P n [] = Unit {0}
-Each P n (x ∷ xs) = P n x × Each P (suc n) xs
-
-module _ {A : Type 0} (P : ℕ → A → Type 0) where
-  each-append : (xs ys : List A) (n : ℕ) → Each P n xs → Each P (n + length xs) ys → Each P n (xs ++ ys)
-  each-append [] ys n p q = rw add-zero at q
-  each-append (x ∷ xs) ys n p q = (p .0, each-append xs ys (suc n) (p .1) (rw shift at q))
-
-  each-at : (xs : List A) (n i : ℕ) (z : A) → i < length xs → Each P n xs → P (n + i) (getD xs i z)
-  each-at [] n i z h p = absurd (omega arith)
-  each-at (x ∷ xs) n zero z h p = rw add-zero (p .0)
-  each-at (x ∷ xs) n (suc i) z h p = rw shift (each-at xs (suc n) i z (omega arith) (p .1))
-
 module _ (v : ℕ) (C B : List ℕ) where
-  -- These words stand in the bodies, at this place, and then those.
-  record Stand (at : ℕ) (words behind : List ℕ) : Type 0 where
-    within : at ≤ length B
-    here : drop at B ≡ words ++ behind
-
-  stand-end : (at : ℕ) (xs ys : List ℕ) → Stand at xs ys → at + length xs ≤ length B
-  stand-end at xs ys s =
-      let w = s .within in
-      let l = sym (length-drop at B) ∙ ap length (s .here) ∙ length-append xs ys in
-      omega arith
-
-  stand-both : (at : ℕ) (xs ys zs : List ℕ) → Stand at (xs ++ ys) zs → Stand at xs (ys ++ zs)
-  stand-both at xs ys zs s = record { within = s .within; here = s .here ∙ append-assoc xs ys zs }
-
-  stand-next : (at : ℕ) (xs ys zs : List ℕ) → Stand at xs (ys ++ zs) → Stand (at + length xs) ys zs
-  stand-next at xs ys zs s =
-      record {
-        within = stand-end at xs (ys ++ zs) s;
-        here = sym (drop-drop (length xs) at B) ∙ ap (drop (length xs)) (s .here) ∙ drop-append-seam xs (ys ++ zs);
-      }
-
-  -- What comes behind the words of some rows, where these stand at their place.
-  beyond : (xs ys : List ℕ) (own next : ℕ) → 4 * own + length xs ≡ 4 * next → drop (4 * own) C ≡ xs ++ ys → drop (4 * next) C ≡ ys
-  beyond xs ys own next l e = rw (← l, ← drop-drop, e) (drop-append-seam xs ys)
-
   -- One row and the words that it tells of.
   says : {p at : ℕ} {behind rest : List ℕ} (own : ℕ) (o : Object)
       → drop (4 * own) C ≡ objectKind o ∷ p ∷ at ∷ length (ownWords v o) ∷ behind
-      → Stand at (ownWords v o) rest → OwnGood v o → RowBody C B v own o
+      → Stands B at (ownWords v o) rest → OwnGood v o → RowBody C B v own o
   says {at = at} {rest = rest} own o e s g =
       let word : (i : ℕ) → getD C (4 * own + i) 0 ≡ getD (drop (4 * own) C) i 0 = λ i. sym (getD-drop (4 * own) C i 0) in
       let start : getD C (4 * own + 2) 0 ≡ at = word 2 ∙ ap (λ (l : List ℕ). getD l 2 0) e in
@@ -126,26 +68,26 @@ module _ (v : ℕ) (C B : List ℕ) where
         kind-is = rw add-zero at (word 0 ∙ ap (λ (l : List ℕ). getD l 0 0) e);
         size-is = word 3 ∙ ap (λ (l : List ℕ). getD l 3 0) e;
         rest = rest;
-        words-are = rw start (s .here);
-        inside = rw start (stand-end at (ownWords v o) rest s);
+        words-are = rw start (s .words-are);
+        inside = rw start (stands-long s);
         good = g;
       }
 
   -- A group's row, and those of its members.
   group-rows : (os : Objects) (d : String) (p own at : ℕ) (behind rest : List ℕ) → OwnGood v (group os d)
-      → drop (4 * own) C ≡ contents (group os d) v p own at ++ behind → Stand at (bodies (group os d) v) rest
-      → (drop (4 * suc own) C ≡ contentsAll os v own (suc own) at ++ behind → Stand at (bodiesAll os v) (groupWords v (length (listOf os)) d ++ rest) → Each (RowBody C B v) (suc own) (preorderAll os))
+      → drop (4 * own) C ≡ contents (group os d) v p own at ++ behind → Stands B at (bodies (group os d) v) rest
+      → (drop (4 * suc own) C ≡ contentsAll os v own (suc own) at ++ behind → Stands B at (bodiesAll os v) (groupWords v (length (listOf os)) d ++ rest) → Each (RowBody C B v) (suc own) (preorderAll os))
       → Each (RowBody C B v) own (preorder (group os d))
   group-rows os d p own at behind rest g e s members =
       let words = groupWords v (length (listOf os)) d in
-      let inner = stand-both at (bodiesAll os v) words rest s in
-      let f = beyond (_ ∷ _ ∷ _ ∷ _ ∷ []) (contentsAll os v own (suc own) at ++ behind) own (suc own) (omega arith) e in
-      (says own (group os d) e (stand-next at (bodiesAll os v) words rest inner) g, members f inner)
+      let inner = stands-first (bodiesAll os v) words s in
+      let f = beyond v C (_ ∷ _ ∷ _ ∷ _ ∷ []) (contentsAll os v own (suc own) at ++ behind) own (suc own) (omega arith) e in
+      (says own (group os d) e (stands-next (bodiesAll os v) words s) g, members f inner)
 
   -- Where an object's rows and bodies stand at their places, each of its rows says what it should.
   mutual
     each-object : (o : Object) (deep p own at : ℕ) (behind rest : List ℕ) → object v deep .Good o
-        → drop (4 * own) C ≡ contents o v p own at ++ behind → Stand at (bodies o v) rest → Each (RowBody C B v) own (preorder o)
+        → drop (4 * own) C ≡ contents o v p own at ++ behind → Stands B at (bodies o v) rest → Each (RowBody C B v) own (preorder o)
     each-object (leaf l d) deep p own at behind rest g e s = (says own (leaf l d) e s (good-leaf v deep l d g), tt)
     each-object (group os d) zero p own at behind rest g e s = absurd (no-group v os d g)
     each-object (group os d) (suc deep) p own at behind rest g e s =
@@ -154,7 +96,7 @@ module _ (v : ℕ) (C B : List ℕ) where
         (λ f inner. each-member os deep own (suc own) at behind (groupWords v (length (listOf os)) d ++ rest) (body .0 .1 .1) f inner)
 
     each-member : (os : Objects) (deep p own at : ℕ) (behind rest : List ℕ) → AllGood v deep os
-        → drop (4 * own) C ≡ contentsAll os v p own at ++ behind → Stand at (bodiesAll os v) rest → Each (RowBody C B v) own (preorderAll os)
+        → drop (4 * own) C ≡ contentsAll os v p own at ++ behind → Stands B at (bodiesAll os v) rest → Each (RowBody C B v) own (preorderAll os)
     each-member none deep p own at behind rest g e s = tt
     each-member (more o os) deep p own at behind rest g e s =
         let next = own + rows o in
@@ -163,20 +105,20 @@ module _ (v : ℕ) (C B : List ℕ) where
         let others = contentsAll os v p next after in
         let e′ : drop (4 * own) C ≡ here ++ (others ++ behind) = rw append-assoc at e in
         let l = contents-length o v p own at in
-        let f = beyond here (others ++ behind) own next (omega arith) e′ in
-        let first = stand-both at (bodies o v) (bodiesAll os v) rest s in
+        let f = beyond v C here (others ++ behind) own next (omega arith) e′ in
+        let first = stands-first (bodies o v) (bodiesAll os v) s in
         each-append (RowBody C B v) (preorder o) (preorderAll os) own
         (each-object o deep p own at (others ++ behind) (bodiesAll os v ++ rest) (g .0) e′ first)
-        (rw rows-preorder (each-member os deep p next after behind rest (g .1) f (stand-next at (bodies o v) (bodiesAll os v) rest first)))
+        (rw rows-preorder (each-member os deep p next after behind rest (g .1) f (stands-next (bodies o v) (bodiesAll os v) s)))
 
 -- The bodies stand behind the head.
-bodies-stand : (c bs : List ℕ) (d : Drawing) → IsTable c bs d → Stand (d .version) c bs (length (headWords d)) (bodies (outer d) (d .version)) []
+bodies-stand : (c bs : List ℕ) (d : Drawing) → IsTable c bs d → Stands bs (length (headWords d)) (bodies (outer d) (d .version)) []
 bodies-stand c bs d t =
     let own = bodies (outer d) (d .version) in
     let l = ap length (t .bodies-are) ∙ length-append (headWords d) own in
     record {
       within = omega arith;
-      here = ap (drop (length (headWords d))) (t .bodies-are) ∙ drop-append-seam (headWords d) own ∙ sym (append-nil own);
+      words-are = ap (drop (length (headWords d))) (t .bodies-are) ∙ drop-append-seam (headWords d) own ∙ sym (append-nil own);
     }
 
 -- Each row of a drawing's table says what it should of its object.
@@ -190,99 +132,3 @@ row-body c bs d t r h =
     let all = group-rows v c bs os (d .description) 0 0 at [] [] (g .0 .1 .0, g .1) (t .contents-are ∙ sym (append-nil (contentsOf d))) (bodies-stand c bs d t) members in
     let l = rows-preorder (outer d) in
     rw zero-add at (each-at (RowBody c bs v) (objectsOf d) 0 r (outer d) (omega arith) all)
-
--- ---- the words of a leaf and of a group, in their parts
-
-abbrev spelled : List Field → List ℕ
-spelled fs = spellAll (spellFixed wordFields) fs
-
-spelled-append : (fs gs : List Field) → spelled (fs ++ gs) ≡ spelled fs ++ spelled gs
-spelled-append [] gs = refl
-spelled-append (f ∷ fs) gs =
-    let here = spellFixed wordFields (f .kind) (f .value) in
-    ap (λ l. here ++ l) (spelled-append fs gs) ∙ sym (append-assoc here (spelled fs) (spelled gs))
-
--- One part and then another.
-pub pair-words : {A B : Type 0} (f : Layout A) (g : Layout B) (a : A) (b : B) → wordsOf (f & g) (a, b) ≡ wordsOf f a ++ wordsOf g b
-pair-words f g a b = spelled-append (fields (f .format) a) (fields (g .format) b)
-
-pub leaf-words : (v : ℕ) (l : Leaf) (d : String) → leafWords v l d ≡ wordsOf (told (pathCase v) (otherCases v) (leafLetter l)) l ++ wordsOf (objectEnd v) d
-leaf-words v l d = pair-words (told (pathCase v) (otherCases v) (leafLetter l)) (objectEnd v) l d
-
-pub group-own-words : (v n : ℕ) (d : String) → groupWords v n d ≡ digits (2 ^ 32) 1 n ++ wordsOf (objectEnd v) d
-group-own-words v n d = refl
-
--- ---- strings, and the end of an object
-
-chars-words : (n left : ℕ) (s : String) → threaded n (λ m. field (stringChar (eqb m 1))) (λ m c. m - 1) left .Good s
-    → wordsOf (threaded n (λ m. field (stringChar (eqb m 1))) (λ m c. m - 1) left) s ≡ s
-chars-words zero left [] g = refl
-chars-words zero left (c ∷ s) g = absurd g
-chars-words (suc n) left [] g = absurd g
-chars-words (suc n) left (c ∷ s) g =
-    let h = g .0 .fits in
-    ap₂ {C = List ℕ} (λ w ws. w ∷ ws) (one-word c (omega arith)) (chars-words n (left - 1) s (g .1))
-
--- A good string's words: its length and its chars.
-pub string-words : (least : ℕ) (s : String) → string least .Good s → wordsOf (string least) s ≡ length s ∷ s
-string-words least s g = ap₂ {C = List ℕ} (λ w ws. w ∷ ws) (one-word (length s) (g .0 .fits)) (chars-words (length s) (length s) s (g .1))
-
--- Below 1.2 only the flow frame flag ends an object, and there is no description.
-pub end-words-early : (v : ℕ) (d : String) → v < 2 → objectEnd v .Good d → (wordsOf (objectEnd v) d ≡ 0 ∷ []) × (d ≡ [])
-end-words-early v d h g = by (leb 2 v) (lt-leb 2 v h) (g .1)
-  where
-    by : (t : Bool) → t ≡ false → when t (string 0) [] .Good d → (0 ∷ wordsOf (when t (string 0) []) d ≡ 0 ∷ []) × (d ≡ [])
-    by true e g = let z : _≡_ {A = Bool} true false = e in (cc, cc)
-    by false e g = (refl, g)
-
--- From 1.2 on the flag and the description.
-pub end-words : (v : ℕ) (d : String) → 2 ≤ v → objectEnd v .Good d → wordsOf (objectEnd v) d ≡ 0 ∷ length d ∷ d
-end-words v d h g = by (leb 2 v) (le-leb 2 v h) (g .1)
-  where
-    by : (t : Bool) → t ≡ true → when t (string 0) [] .Good d → 0 ∷ wordsOf (when t (string 0) []) d ≡ 0 ∷ length d ∷ d
-    by true e g = ap {B = List ℕ} (λ ws. 0 ∷ ws) (string-words 0 d g)
-    by false e g = let z : _≡_ {A = Bool} false true = e in cc
-
--- ---- the words of a path and of a text
-
--- A path's words: its two paints, and then line style, the char O or C, and outline.
-pub path-words : (v : ℕ) (p : Path) → wordsOf (told (pathCase v) (otherCases v) (leafLetter (path p))) (path p)
-    ≡ wordsOf (P.paint v) (p .linePaint)
-    ++ (wordsOf (P.paint v) (p .fillPaint)
-    ++ (wordsOf (lineStyle v) (p .style) ++ (digits (2 ^ 32) 1 (p .openOrClosed) ++ wordsOf (outline v) (p .start, p .segments))))
-path-words v p =
-    let last = field (charWhere (oneOfChars (code "O" ∷ code "C" ∷ []))) & outline v in
-    let end : ℕ × (Point × List Segment) = (p .openOrClosed, (p .start, p .segments)) in
-    pair-words (P.paint v) (P.paint v & lineStyle v & last) (p .linePaint) (p .fillPaint, (p .style, end))
-    ∙ ap (λ l. wordsOf (P.paint v) (p .linePaint) ++ l)
-    (pair-words (P.paint v) (lineStyle v & last) (p .fillPaint) (p .style, end)
-    ∙ ap (λ l. wordsOf (P.paint v) (p .fillPaint) ++ l) (pair-words (lineStyle v) last (p .style) end))
-
--- A text's words: its font, its LaTeX fields, its paint, its chars.
-pub text-words : (v : ℕ) (t : T.Text) → wordsOf (told (pathCase v) (otherCases v) (leafLetter (text t))) (text t)
-    ≡ wordsOf T.font (T.fontOf t) ++ (wordsOf (ifFlag T.latex) (t .latex) ++ (wordsOf (P.paint v) (t .paint) ++ wordsOf (string 1) (t .text)))
-text-words v t =
-    pair-words T.font (ifFlag T.latex & P.paint v & string 1) (T.fontOf t) (t .latex, (t .paint, t .text))
-    ∙ ap (λ l. wordsOf T.font (T.fontOf t) ++ l)
-    (pair-words (ifFlag T.latex) (P.paint v & string 1) (t .latex) (t .paint, t .text)
-    ∙ ap (λ l. wordsOf (ifFlag T.latex) (t .latex) ++ l) (pair-words (P.paint v) (string 1) (t .paint) (t .text)))
-
--- The words of LaTeX fields that are there: the flag, four strings, two bytes, and the alternative.
-pub latex-words : (l : T.Latex) → wordsOf (ifFlag T.latex) (some l)
-    ≡ 1
-    ∷ (wordsOf (string 0) (l .family)
-    ++ (wordsOf (string 0) (l .series)
-    ++ (wordsOf (string 0) (l .shape)
-    ++ (wordsOf (string 0) (l .size)
-    ++ (digits (2 ^ 32) 1 (l .horizontal) ++ (digits (2 ^ 32) 1 (l .vertical) ++ wordsOf (string 0) (l .alternative)))))))
-latex-words l =
-    let s = string 0 in
-    let last = field (byteIn 0 2) & field (byteIn 0 3) & s in
-    let end : ℕ × (ℕ × String) = (l .horizontal, (l .vertical, l .alternative)) in
-    ap {B = List ℕ} (λ ws. 1 ∷ ws)
-    (pair-words s (s & s & s & last) (l .family) (l .series, (l .shape, (l .size, end)))
-    ∙ ap (λ ws. wordsOf s (l .family) ++ ws)
-    (pair-words s (s & s & last) (l .series) (l .shape, (l .size, end))
-    ∙ ap (λ ws. wordsOf s (l .series) ++ ws)
-    (pair-words s (s & last) (l .shape) (l .size, end)
-    ∙ ap (λ ws. wordsOf s (l .shape) ++ ws) (pair-words s last (l .size) end))))

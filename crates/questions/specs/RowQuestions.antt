@@ -1,10 +1,10 @@
 -- A question about a part of a row's object: a table that was checked, and a row of it.
-use mathlib.Core.Path.{_≡_, refl, sym, ap, _∙_}
+use mathlib.Core.Path.{_≡_, refl, sym, ap, subst, _∙_}
 use mathlib.Core.Option.{Option, none, some}
 use Prim.Native.Nat.{ℕ, _^_, _<_, _≤_}
 use native.Mathlib.Omega.{arith}
 use mathlib.Core.List.{List}
-use lib.ListN.{getD, getElem?}
+use lib.ListN.{length, getD, getElem?}
 use Rattle.format.specs.Digits.{Below}
 use Rattle.drawing.specs.declared.Answer.{Answer}
 use Rattle.drawing.specs.Object.{Object}
@@ -15,15 +15,10 @@ use Rattle.drawing.specs.Answers.{rowsOf, checkFrom, Checks}
 use Rattle.drawing.specs.Questions.{refusal, orRefusal, partAt, partIn}
 use Rattle.laws.specs.TableLaws.{drawing-of-table}
 use Rattle.questions.specs.RowBodies.{RowBody}
-use Rattle.questions.specs.RowBodyLaws.{row-object, no-row, row-body}
+use Rattle.questions.specs.RowBodyLaws.{row-object, no-row, row-body, version-word}
 use Rattle.questions.specs.Rows.{HasRow}
 use Rattle.questions.specs.Entries.{TableHere}
 use Rattle.questions.specs.EntryLaws.{row-here}
-
--- There is such a row, in a table of some version.
-pub record RowHere (contents bodies : List ℕ) (row : ℕ) : Type 0 where
-  pub version : ℕ
-  pub has : HasRow contents bodies version row
 
 -- The row's object, by which the question is answered.
 pub record Asked (contents bodies : List ℕ) (row : ℕ) : Type 0 where
@@ -31,8 +26,11 @@ pub record Asked (contents bodies : List ℕ) (row : ℕ) : Type 0 where
   pub is : drawingOfTable contents bodies ≡ some d
   pub object : Object
   pub object-is : getElem? (objectsOf d) row ≡ some object
-  pub body : RowBody contents bodies (d .version) row object
-  pub here : RowHere contents bodies row
+  -- the first word tells the version
+  pub begun : 0 < length bodies
+  pub version-is : getD bodies 0 0 ≡ d .version
+  pub body : RowBody contents bodies (getD bodies 0 0) row object
+  pub has : HasRow contents bodies (getD bodies 0 0) row
 
 pub asked-part : {A : Type 0} (has : Drawing → Object → Option A) {c bs : List ℕ} {row : ℕ} → (asked : Asked c bs row)
     → partIn has (drawingOfTable c bs) row ≡ orRefusal 7 (has (asked .d) (asked .object))
@@ -68,12 +66,16 @@ module _ {c bs : List ℕ} {a : Answer} (checks : Checks c bs a) (row : ℕ) whe
         let d = checked .0 in
         let more : row < rowsOf d = omega (arith, checked .1 .1, inside) in
         let is-table = drawing-of-table c bs below d .0 (checked .1 .0) in
-        let table : TableHere c bs (rowsOf d) (d .version) = record { d = d; is-table = is-table; rows-are = refl; version-is = refl } in
+        let o = getD (objectsOf d) row (outer d) in
+        let version-is = version-word c bs d is-table in
+        let table : TableHere c bs (rowsOf d) (getD bs 0 0) = record { d = d; is-table = is-table; rows-are = refl; version-is = version-is } in
         record {
           d = d;
           is = checked .1 .0;
-          object = getD (objectsOf d) row (outer d);
+          object = o;
           object-is = row-object d row more;
-          body = row-body c bs d is-table row more;
-          here = record { version = d .version; has = row-here table row more };
+          begun = subst (λ l. 0 < length l) (sym (is-table .bodies-are)) (omega arith);
+          version-is = version-is;
+          body = subst (λ v. RowBody c bs v row o) (sym version-is) (row-body c bs d is-table row more);
+          has = row-here table row more;
         }

@@ -1,19 +1,17 @@
 -- What the functions that look at one row of a table need, and what they find.
 use mathlib.Core.Path.{_≡_}
-use mathlib.Core.Bool.{Bool, true}
+use mathlib.Core.Bool.{Bool}
 use Prim.Native.Nat.{ℕ, _+_, _*_, _≤_}
-use mathlib.Core.List.{List, _++_}
-use lib.ListN.{length, drop}
-use Rattle.format.specs.Layout.{Layout}
+use mathlib.Core.List.{List}
+use lib.ListN.{length}
 use Rattle.drawing.specs.Limits.{lengthLimit}
 use Rattle.drawing.specs.String.{String, equal}
 use Rattle.drawing.specs.Object.{Object}
 use Rattle.drawing.specs.LeafLayout.{objectEnd}
 use Rattle.drawing.specs.Table.{wordsOf, rowWidth, startIn}
 use Rattle.drawing.specs.Order.{descriptionOf}
-use Rattle.passes.specs.declared.Pass.{Pass}
-use Rattle.passes.specs.Carries.{Laid}
 use Rattle.questions.specs.RowBodies.{ownWords, RowBody}
+use Rattle.questions.specs.Places.{Here}
 
 -- There is such a row, of some object, in a table that is not too long.
 pub record HasRow (contents bodies : List ℕ) (v r : ℕ) : Type 0 where
@@ -22,16 +20,9 @@ pub record HasRow (contents bodies : List ℕ) (v r : ℕ) : Type 0 where
   pub row-inside : rowWidth * r + 4 ≤ length contents
   pub short : length bodies ≤ lengthLimit
 
--- A layout was judged, in memory of its own.
-pub record Passes {A : Type 0} (L : Layout A) (bodies : List ℕ) (p r : Pass) : Type 0 where
-  pub before : List ℕ
-  pub after : List ℕ
-  pub laid : Laid (L .format) true bodies before after p r
-
 -- An object's end, the flow frame flag and the description, begins here.
 pub record EndsAt (contents bodies : List ℕ) (v r : ℕ) (o : Object) (behind : ℕ) : Type 0 where
-  pub rest : List ℕ
-  pub there : drop behind bodies ≡ wordsOf (objectEnd v) (descriptionOf o) ++ rest
+  pub here : Here (objectEnd v) bodies behind (descriptionOf o)
   pub end-is : startIn contents r + length (ownWords v o) ≡ behind + length (wordsOf (objectEnd v) (descriptionOf o))
 
 abbrev pub EndIs : (contents bodies : List ℕ) → (v r behind : ℕ) → Type 0

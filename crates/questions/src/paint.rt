@@ -1,18 +1,17 @@
 // The paint question.
+use crate::Part;
 use crate::paint_words::paint_at;
-use crate::paint_words::paint_end;
-use crate::text_words::font_end;
-use crate::text_words::latex_end;
+use crate::places::behind;
 use drawing::PaintAnswer;
 use drawing::Which;
 use table::answers::check;
-ghost use Rattle.questions.specs.RowQuestions.{RowHere};
+ghost use Rattle.questions.specs.Rows.{HasRow};
 ghost use Rattle.questions.specs.PaintQuestion.{PaintOf, Paints};
 
-// A path begins with its line paint and its fill paint; a text has its paint behind its font and its LaTeX fields.
-fn paint_of(contents: &[u32], words: &[u32], row: usize, which: Which) -> PaintAnswer
-    requires { ⌜ RowHere (now contents) (now words) row ⌝ }
-    ensures { λ r. ⌜ PaintOf (now (contents .entry)) (now (words .entry)) row which r ⌝ }
+// A path begins with its line paint, and its fill paint stands behind that; a text's paint stands behind its font and its LaTeX fields.
+fn paint_of(contents: &[u32], words: &[u32], row: usize, version: u32, which: Which) -> PaintAnswer
+    requires { ⌜ HasRow (now contents) (now words) version row ⌝ }
+    ensures { λ r. ⌜ PaintOf (now (contents .entry)) (now (words .entry)) version row which r ⌝ }
 {
     let kind = contents[4 * row];
     let start = contents[4 * row + 2] as usize;
@@ -21,19 +20,22 @@ fn paint_of(contents: &[u32], words: &[u32], row: usize, which: Which) -> PaintA
             if kind != 2 {
                 return PaintAnswer::Refused(7);
             }
-            return paint_at(words, start);
+            return paint_at(words, start, version);
         }
         Which::Fill => {
             if kind != 2 {
                 return PaintAnswer::Refused(7);
             }
-            return paint_at(words, paint_end(words, start));
+            let fill = behind(words, start, version, Part::Paint);
+            return paint_at(words, fill, version);
         }
         Which::Text => {
             if kind != 3 {
                 return PaintAnswer::Refused(7);
             }
-            return paint_at(words, latex_end(words, font_end(words, start)));
+            let latex = behind(words, start, version, Part::Font);
+            let paint = behind(words, latex, version, Part::Latex);
+            return paint_at(words, paint, version);
         }
     }
 }
@@ -48,5 +50,6 @@ pub fn paint(contents: &[u32], words: &[u32], row: u32, which: Which) -> PaintAn
     if checked.rows <= row {
         return PaintAnswer::Refused(6);
     }
-    paint_of(contents, words, row as usize, which)
+    let version = words[0];
+    paint_of(contents, words, row as usize, version, which)
 }

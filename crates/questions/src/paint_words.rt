@@ -1,11 +1,15 @@
 // Paints, as they stand in the words of a table.
+use crate::Part;
+use crate::places::behind;
 use drawing::Paint;
 use drawing::PaintAnswer;
 ghost use mathlib.Core.Path.{_≡_};
 ghost use Prim.Native.Nat.{_+_, _<_};
 ghost use lib.ListN.{length, getD};
-ghost use Rattle.drawing.specs.Questions.{float, part, plainValue, paintValue};
-ghost use Rattle.questions.specs.PaintQuestion.{Number, PlainHere, GradientHere, PaintHere, plainAt, plainEnd, lastAt, paintAt, paintEnd};
+ghost use Rattle.drawing.specs.Paint as P;
+ghost use Rattle.drawing.specs.Questions.{float, plainValue};
+ghost use Rattle.questions.specs.Places.{Holds};
+ghost use Rattle.questions.specs.PaintQuestion.{Number, PlainHere, PaintRead, plainAt};
 
 // A component of a paint, so many words behind its letter.
 fn float_at(words: &[u32], at: usize, i: usize) -> f32
@@ -54,68 +58,29 @@ fn plain_at(words: &[u32], at: usize) -> Paint
     Paint::Transparent
 }
 
-// The place behind a plain paint.
-fn plain_end(words: &[u32], at: usize) -> usize
-    requires { ⌜ at < length (now words) ⌝ }
-    ensures { λ r. ⌜ r ≡ plainEnd (now (words .entry)) at ⌝ }
-{
-    let letter = words[at];
-    if letter == 82 {
-        return at + 5;
-    }
-    if letter == 67 {
-        return at + 6;
-    }
-    if letter == 89 {
-        return at + 3;
-    }
-    if letter == 83 {
-        return at + 5;
-    }
-    at + 1
-}
-
-// Where the integer of a gradient stands, from behind its letter on.
-fn last_at(words: &[u32], at: usize) -> usize
-    requires { ⌜ GradientHere (now words) at ⌝ }
-    ensures { λ r. ⌜ r ≡ lastAt (now (words .entry)) at ⌝ }
-{
-    plain_end(words, plain_end(words, at))
-}
-
-pub fn paint_at(words: &[u32], at: usize) -> PaintAnswer
-    requires { ⌜ PaintHere (now words) at ⌝ }
-    ensures { λ r. ⌜ r ≡ paintValue (part (paintAt (now (words .entry)) at)) ⌝ }
+// A gradient's second paint stands behind its first one, and its integer behind the second.
+pub fn paint_at(words: &[u32], at: usize, version: u32) -> PaintAnswer
+    requires { ⌜ Holds (P.paint version) (now words) at ⌝ }
+    ensures { λ r. ⌜ PaintRead (now (words .entry)) version at r ⌝ }
 {
     let letter = words[at];
     if letter == 71 {
+        let second = behind(words, at + 1, version, Part::PlainPaint);
+        let last = behind(words, second, version, Part::PlainPaint);
         return PaintAnswer::Linear {
             start: plain_at(words, at + 1),
-            end: plain_at(words, plain_end(words, at + 1)),
-            direction: words[last_at(words, at + 1)],
+            end: plain_at(words, second),
+            direction: words[last],
         };
     }
     if letter == 68 {
+        let second = behind(words, at + 1, version, Part::PlainPaint);
+        let last = behind(words, second, version, Part::PlainPaint);
         return PaintAnswer::Radial {
             start: plain_at(words, at + 1),
-            end: plain_at(words, plain_end(words, at + 1)),
-            location: words[last_at(words, at + 1)],
+            end: plain_at(words, second),
+            location: words[last],
         };
     }
     PaintAnswer::Plain(plain_at(words, at))
-}
-
-// The place behind a paint.
-pub fn paint_end(words: &[u32], at: usize) -> usize
-    requires { ⌜ PaintHere (now words) at ⌝ }
-    ensures { λ r. ⌜ r ≡ paintEnd (now (words .entry)) at ⌝ }
-{
-    let letter = words[at];
-    if letter == 71 {
-        return last_at(words, at + 1) + 1;
-    }
-    if letter == 68 {
-        return last_at(words, at + 1) + 1;
-    }
-    plain_end(words, at)
 }

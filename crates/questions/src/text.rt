@@ -1,15 +1,18 @@
 // The text question.
-use crate::paint_words::paint_end;
-use crate::text_words::alternative_chars;
-use crate::text_words::chars_at;
-use crate::text_words::font_end;
-use crate::text_words::latex_end;
+use crate::Part;
+use crate::places::behind;
 use drawing::Span;
 use drawing::TextAnswer;
 use table::answers::check;
 ghost use mathlib.Core.Path.{_≡_};
-ghost use Rattle.questions.specs.RowQuestions.{RowHere};
-ghost use Rattle.questions.specs.TextQuestion.{noText, TextOf, Texts};
+ghost use Prim.Native.Nat.{_<_, _≤_};
+ghost use lib.ListN.{length};
+ghost use Rattle.drawing.specs.Limits.{lengthLimit};
+ghost use Rattle.drawing.specs.Choices.{ifFlag};
+ghost use Rattle.drawing.specs.Text as T;
+ghost use Rattle.questions.specs.Rows.{HasRow};
+ghost use Rattle.questions.specs.Places.{Holds};
+ghost use Rattle.questions.specs.TextQuestion.{noText, CharsRead, AlternativeRead, TextOf, Texts};
 
 fn refused(number: u32) -> TextAnswer
     ensures { λ r. ⌜ r ≡ noText number ⌝ }
@@ -27,22 +30,49 @@ fn refused(number: u32) -> TextAnswer
     }
 }
 
-// The alternative ends the LaTeX fields, which stand behind the font; the chars stand behind these and the paint.
-fn text_of(contents: &[u32], words: &[u32], row: usize) -> TextAnswer
-    requires { ⌜ RowHere (now contents) (now words) row ⌝ }
-    ensures { λ r. ⌜ TextOf (now (contents .entry)) (now (words .entry)) row r ⌝ }
+// The chars of the string that stands here, behind their number.
+fn chars_at(words: &[u32], at: usize) -> Span
+    requires { ⌜ (at < length (now words)) × (length (now words) ≤ lengthLimit) ⌝ }
+    ensures { λ r. ⌜ CharsRead (now (words .entry)) at r ⌝ }
+{
+    Span {
+        start: (at + 1) as u32,
+        length: words[at],
+    }
+}
+
+// The alternative's chars, if the flag says that there are LaTeX fields.
+fn alternative_chars(words: &[u32], at: usize, version: u32) -> Span
+    requires { ⌜ Holds (ifFlag T.latex) (now words) at ⌝ }
+    ensures { λ r. ⌜ AlternativeRead (now (words .entry)) at r ⌝ }
+{
+    if words[at] == 1 {
+        let alternative = behind(words, at + 1, version, Part::BeforeAlternative);
+        return chars_at(words, alternative);
+    }
+    Span {
+        start: 0,
+        length: 0,
+    }
+}
+
+// The LaTeX fields stand behind the font, and the chars behind these and the paint.
+fn text_of(contents: &[u32], words: &[u32], row: usize, version: u32) -> TextAnswer
+    requires { ⌜ HasRow (now contents) (now words) version row ⌝ }
+    ensures { λ r. ⌜ TextOf (now (contents .entry)) (now (words .entry)) version row r ⌝ }
 {
     let kind = contents[4 * row];
     let start = contents[4 * row + 2] as usize;
     if kind != 3 {
         return refused(7);
     }
-    let latex = font_end(words, start);
-    let paint = latex_end(words, latex);
+    let latex = behind(words, start, version, Part::Font);
+    let paint = behind(words, latex, version, Part::Latex);
+    let chars = behind(words, paint, version, Part::Paint);
     TextAnswer {
         number: 0,
-        alternative: alternative_chars(words, latex),
-        text: chars_at(words, paint_end(words, paint)),
+        alternative: alternative_chars(words, latex, version),
+        text: chars_at(words, chars),
     }
 }
 
@@ -56,5 +86,6 @@ pub fn text(contents: &[u32], words: &[u32], row: u32) -> TextAnswer
     if checked.rows <= row {
         return refused(6);
     }
-    text_of(contents, words, row as usize)
+    let version = words[0];
+    text_of(contents, words, row as usize, version)
 }

@@ -11,35 +11,35 @@ use Rattle.kinds.proofs.numbers.font_size.Reads as font-size-reads
 use Rattle.parts.proofs.string.string.Reads as string-reads
 use Rattle.parts.proofs.transformation.transformation.Reads as transformation-reads
 
--- src/text.rt:25:9
+-- src/text.rt:27:9
 string-requires : tie.Need-string-requires
 string-requires c κs = search needs
 
--- src/text.rt:26:9
+-- src/text.rt:28:9
 byte-requires : tie.Need-byte-requires
 byte-requires c κs = search needs
 
--- src/text.rt:28:9
+-- src/text.rt:30:9
 byte-requires-2 : tie.Need-byte-requires-2
 byte-requires-2 c κs = search needs
 
--- src/text.rt:30:9
+-- src/text.rt:32:9
 font-size-requires : tie.Need-font-size-requires
 font-size-requires c κs = search needs
 
--- src/text.rt:32:5
+-- src/text.rt:34:5
 transformation-requires : tie.Need-transformation-requires
 transformation-requires c κs = search needs
 
--- src/text.rt:14:1
+-- src/text.rt:16:1
 same-length : tie.Need-same-length
 same-length c = c .before .before .before .bodies5 .given ∙ c .before .before .before .before .before .before .before .before .before .before .before .bodies4 .given ∙ c .before .before .before .before .before .before .before .before .before .before .before .before .before .before .before .before .before .before .before .bodies3 .given ∙ c .before .before .before .before .before .before .before .before .before .before .before .before .before .before .before .before .before .before .before .before .before .before .before .before .before .before .before .bodies2 .given ∙ c .before .before .before .before .before .before .before .before .before .before .before .before .before .before .before .before .before .before .before .before .before .before .before .before .before .before .before .before .before .before .before .before .before .before .bodies .given
 
--- src/text.rt:14:1
+-- src/text.rt:16:1
 same-length-2 : tie.Need-same-length-2
 same-length-2 c = c .before .out5 .given ∙ c .before .before .before .before .before .before .before .before .before .out4 .given ∙ c .before .before .before .before .before .before .before .before .before .before .before .before .before .before .before .before .before .out3 .given ∙ c .before .before .before .before .before .before .before .before .before .before .before .before .before .before .before .before .before .before .before .before .before .before .before .before .before .out2 .given ∙ c .before .before .before .before .before .before .before .before .before .before .before .before .before .before .before .before .before .before .before .before .before .before .before .before .before .before .before .before .before .before .before .before .out .given
 
--- src/text.rt:14:1
+-- src/text.rt:16:1
 returns : tie.Need-returns
 returns c = laid (both (c .before .before .before .before .before .before .before .before .before .before .before .before .before .before .before .before .before .before .before .before .before .before .before .before .before .before .before .before .before .before .before .before .before .before .before .string .ensures) (laid (both (field-laid (c .before .before .before .before .before .before .before .before .before .before .before .before .before .before .before .before .before .before .before .before .before .before .before .before .before .before .before .before .byte .ensures)) (laid (both (field-laid (c .before .before .before .before .before .before .before .before .before .before .before .before .before .before .before .before .before .before .before .before .byte2 .ensures)) (laid (both (field-laid (c .before .before .before .before .before .before .before .before .before .before .before .before .font-size .ensures)) (c .before .before .before .before .transformation .ensures))))))))
 

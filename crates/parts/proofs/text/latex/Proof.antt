@@ -1,65 +1,34 @@
 -- `parts::text::latex` meets its contract.
-use Rattle.passes.specs.LayoutLaws.{laid, both, cased, field-laid}
-use mathlib.Core.Path.{_∙_}
+use Rattle.passes.specs.CarryLaws.{both-carried}
 use borrow.Author.Needs.{needs}
 use Rattle.parts.proofs.text.latex.Statement.{statement}
 use Rattle.parts.proofs.text.latex.Tie as tie
 use Rattle.parts.proofs.text.latex.Reads as reads
 use Rattle.parts.proofs.text.latex.Lts as lts
-use Rattle.kinds.proofs.numbers.byte.Reads as byte-reads
 use Rattle.parts.proofs.string.string.Reads as string-reads
+use Rattle.parts.proofs.text.before_alternative.Reads as before-alternative-reads
 
--- src/text.rt:46:9
+-- src/text.rt:70:9
+before-alternative-requires : tie.Need-before-alternative-requires
+before-alternative-requires c κs = search needs
+
+-- src/text.rt:71:5
 string-requires : tie.Need-string-requires
 string-requires c κs = search needs
 
--- src/text.rt:47:9
-string-requires-2 : tie.Need-string-requires-2
-string-requires-2 c κs = search needs
-
--- src/text.rt:48:9
-string-requires-3 : tie.Need-string-requires-3
-string-requires-3 c κs = search needs
-
--- src/text.rt:49:9
-string-requires-4 : tie.Need-string-requires-4
-string-requires-4 c κs = search needs
-
--- src/text.rt:50:9
-byte-requires : tie.Need-byte-requires
-byte-requires c κs = search needs
-
--- src/text.rt:52:9
-byte-requires-2 : tie.Need-byte-requires-2
-byte-requires-2 c κs = search needs
-
--- src/text.rt:54:5
-string-requires-5 : tie.Need-string-requires-5
-string-requires-5 c κs = search needs
-
--- src/text.rt:35:1
+-- src/text.rt:59:1
 same-length : tie.Need-same-length
-same-length c = c .before .before .before .bodies7 .given ∙ c .before .before .before .before .before .before .before .before .before .before .before .bodies6 .given ∙ c .before .before .before .before .before .before .before .before .before .before .before .before .before .before .before .before .before .before .before .bodies5 .given ∙ c .before .before .before .before .before .before .before .before .before .before .before .before .before .before .before .before .before .before .before .before .before .before .before .before .before .before .bodies4 .given ∙ c .before .before .before .before .before .before .before .before .before .before .before .before .before .before .before .before .before .before .before .before .before .before .before .before .before .before .before .before .before .before .before .before .before .bodies3 .given ∙ c .before .before .before .before .before .before .before .before .before .before .before .before .before .before .before .before .before .before .before .before .before .before .before .before .before .before .before .before .before .before .before .before .before .before .before .before .before .before .before .before .bodies2 .given ∙ c .before .before .before .before .before .before .before .before .before .before .before .before .before .before .before .before .before .before .before .before .before .before .before .before .before .before .before .before .before .before .before .before .before .before .before .before .before .before .before .before .before .before .before .before .before .before .before .bodies .given
+same-length c = search needs
 
--- src/text.rt:35:1
+-- src/text.rt:59:1
 same-length-2 : tie.Need-same-length-2
-same-length-2 c = c .before .out7 .given ∙ c .before .before .before .before .before .before .before .before .before .out6 .given ∙ c .before .before .before .before .before .before .before .before .before .before .before .before .before .before .before .before .before .out5 .given ∙ c .before .before .before .before .before .before .before .before .before .before .before .before .before .before .before .before .before .before .before .before .before .before .before .before .out4 .given ∙ c .before .before .before .before .before .before .before .before .before .before .before .before .before .before .before .before .before .before .before .before .before .before .before .before .before .before .before .before .before .before .before .out3 .given ∙ c .before .before .before .before .before .before .before .before .before .before .before .before .before .before .before .before .before .before .before .before .before .before .before .before .before .before .before .before .before .before .before .before .before .before .before .before .before .before .out2 .given ∙ c .before .before .before .before .before .before .before .before .before .before .before .before .before .before .before .before .before .before .before .before .before .before .before .before .before .before .before .before .before .before .before .before .before .before .before .before .before .before .before .before .before .before .before .before .before .out .given
+same-length-2 c = search needs
 
--- src/text.rt:35:1
+-- src/text.rt:59:1
 returns : tie.Need-returns
-returns c = laid (cased (laid (both (c .before .before .before .before .before .before .before .before .before .before .before .before .before .before .before .before .before .before .before .before .before .before .before .before .before .before .before .before .before .before .before .before .before .before .before .before .before .before .before .before .before .before .before .before .before .before .before .before .string .ensures) (laid (both (c .before .before .before .before .before .before .before .before .before .before .before .before .before .before .before .before .before .before .before .before .before .before .before .before .before .before .before .before .before .before .before .before .before .before .before .before .before .before .before .before .before .string2 .ensures) (laid (both (c .before .before .before .before .before .before .before .before .before .before .before .before .before .before .before .before .before .before .before .before .before .before .before .before .before .before .before .before .before .before .before .before .before .before .string3 .ensures) (laid (both (c .before .before .before .before .before .before .before .before .before .before .before .before .before .before .before .before .before .before .before .before .before .before .before .before .before .before .before .string4 .ensures) (laid (both (field-laid (c .before .before .before .before .before .before .before .before .before .before .before .before .before .before .before .before .before .before .before .before .byte .ensures)) (laid (both (field-laid (c .before .before .before .before .before .before .before .before .before .before .before .before .byte2 .ensures)) (c .before .before .before .before .string5 .ensures))))))))))))))
+returns c = record { carried = both-carried (c .before .before .before .before .before .before .before .before .before .before .before .before-alternative .ensures .carried) (c .before .before .before .before .string .ensures .carried) }
 
 pub latex-spec : {M : Type 1} → statement M
 latex-spec =
     tie.close
-    (tie.spec
-    string-requires
-    string-requires-2
-    string-requires-3
-    string-requires-4
-    byte-requires
-    byte-requires-2
-    string-requires-5
-    same-length
-    same-length-2
-    returns)
+    (tie.spec before-alternative-requires string-requires same-length same-length-2 returns)

@@ -1,5 +1,6 @@
 -- `questions::label::is_labelled` meets its contract.
-use Rattle.questions.specs.LabelLaws.{some-end, label-early, two-words, too-long, other-number, other-chars, told-by-end}
+use Rattle.questions.specs.EndLaws.{ends}
+use Rattle.questions.specs.LabelLaws.{label-early, two-words, too-long, other-number, other-chars, told-by-end}
 use native.Mathlib.Omega.{arith}
 use lib.ListN.{length, getD}
 use Prim.Native.Nat.{_+_, _-_, _*_}
@@ -90,7 +91,7 @@ cast-if4 c = let fit = c .shared-slice-known6 .given ((getD (c .before .before .
 
 -- src/label.rt:43:9
 returns-4 : tie.Need-returns-4
-returns-4 c = λ o body. let e = some-end (c .before .before .before .before .before .before .before .before .before .before .args .contents .now) (c .before .before .before .before .before .before .before .before .before .before .args .words .now) (c .before .before .before .before .before .before .before .before .before .before .args .version) (c .before .before .before .before .before .before .before .before .before .before .args .row) o body in other-number (c .before .before .before .before .before .before .before .before .before .before .args .contents .now) (c .before .before .before .before .before .before .before .before .before .before .args .words .now) (c .before .before .before .before .before .before .before .before .before .before .args .version) (c .before .before .before .before .before .before .before .before .before .before .args .row) (c .before .before .before .before .before .before .before .before .before .before .args .label .now) (omega (arith, c .before .before .before .before .before .before .if1 .left)) o body (e .0) (e .1) (getD (c .before .before .before .before .before .before .before .before .before .before .args .contents .now) (4 * c .before .before .before .before .before .before .before .before .before .before .args .row + 2) 0 + getD (c .before .before .before .before .before .before .before .before .before .before .args .contents .now) (4 * c .before .before .before .before .before .before .before .before .before .before .args .row + 3) 0 - length (c .before .before .before .before .before .before .before .before .before .before .args .label .now)) (omega (arith, body .size-is, c .before .before .before .if2 .left, c .before .before .if3 .left)) (c .if4 .taken)
+returns-4 c = λ o body. let e = ends (c .before .before .before .before .before .before .before .before .before .before .args .contents .now) (c .before .before .before .before .before .before .before .before .before .before .args .words .now) (c .before .before .before .before .before .before .before .before .before .before .args .version) (c .before .before .before .before .before .before .before .before .before .before .args .row) o body in other-number (c .before .before .before .before .before .before .before .before .before .before .args .contents .now) (c .before .before .before .before .before .before .before .before .before .before .args .words .now) (c .before .before .before .before .before .before .before .before .before .before .args .version) (c .before .before .before .before .before .before .before .before .before .before .args .row) (c .before .before .before .before .before .before .before .before .before .before .args .label .now) (omega (arith, c .before .before .before .before .before .before .if1 .left)) o body _ e (getD (c .before .before .before .before .before .before .before .before .before .before .args .contents .now) (4 * c .before .before .before .before .before .before .before .before .before .before .args .row + 2) 0 + getD (c .before .before .before .before .before .before .before .before .before .before .args .contents .now) (4 * c .before .before .before .before .before .before .before .before .before .before .args .row + 3) 0 - length (c .before .before .before .before .before .before .before .before .before .before .args .label .now)) (omega (arith, body .size-is, c .before .before .before .if2 .left, c .before .before .if3 .left)) (c .if4 .taken)
 
 -- src/label.rt:45:8
 same-chars-requires : tie.Need-same-chars-requires
@@ -110,7 +111,7 @@ returns-5 c = λ o body. told-by-end (c .before .before .before .before .before 
 
 -- src/label.rt:25:1
 returns-6 : tie.Need-returns-6
-returns-6 c = λ o body. let e = some-end (c .before .before .before .before .before .before .before .before .before .before .before .before .args .contents .now) (c .before .before .before .before .before .before .before .before .before .before .before .before .args .words .now) (c .before .before .before .before .before .before .before .before .before .before .before .before .args .version) (c .before .before .before .before .before .before .before .before .before .before .before .before .args .row) o body in other-chars (c .before .before .before .before .before .before .before .before .before .before .before .before .args .contents .now) (c .before .before .before .before .before .before .before .before .before .before .before .before .args .words .now) (c .before .before .before .before .before .before .before .before .before .before .before .before .args .version) (c .before .before .before .before .before .before .before .before .before .before .before .before .args .row) (c .before .before .before .before .before .before .before .before .before .before .before .before .args .label .now) (omega (arith, c .before .before .before .before .before .before .before .before .if1 .left)) o body (e .0) (e .1) (getD (c .before .before .before .before .before .before .before .before .before .before .before .before .args .contents .now) (4 * c .before .before .before .before .before .before .before .before .before .before .before .before .args .row + 2) 0 + getD (c .before .before .before .before .before .before .before .before .before .before .before .before .args .contents .now) (4 * c .before .before .before .before .before .before .before .before .before .before .before .before .args .row + 3) 0 - length (c .before .before .before .before .before .before .before .before .before .before .before .before .args .label .now)) (omega (arith, body .size-is, c .before .before .before .before .before .if2 .left, c .before .before .before .before .if3 .left)) (sym (c .before .same-chars .ensures) ∙ c .if5 .left)
+returns-6 c = λ o body. let e = ends (c .before .before .before .before .before .before .before .before .before .before .before .before .args .contents .now) (c .before .before .before .before .before .before .before .before .before .before .before .before .args .words .now) (c .before .before .before .before .before .before .before .before .before .before .before .before .args .version) (c .before .before .before .before .before .before .before .before .before .before .before .before .args .row) o body in other-chars (c .before .before .before .before .before .before .before .before .before .before .before .before .args .contents .now) (c .before .before .before .before .before .before .before .before .before .before .before .before .args .words .now) (c .before .before .before .before .before .before .before .before .before .before .before .before .args .version) (c .before .before .before .before .before .before .before .before .before .before .before .before .args .row) (c .before .before .before .before .before .before .before .before .before .before .before .before .args .label .now) (omega (arith, c .before .before .before .before .before .before .before .before .if1 .left)) o body _ e (getD (c .before .before .before .before .before .before .before .before .before .before .before .before .args .contents .now) (4 * c .before .before .before .before .before .before .before .before .before .before .before .before .args .row + 2) 0 + getD (c .before .before .before .before .before .before .before .before .before .before .before .before .args .contents .now) (4 * c .before .before .before .before .before .before .before .before .before .before .before .before .args .row + 3) 0 - length (c .before .before .before .before .before .before .before .before .before .before .before .before .args .label .now)) (omega (arith, body .size-is, c .before .before .before .before .before .if2 .left, c .before .before .before .before .if3 .left)) (sym (c .before .same-chars .ensures) ∙ c .if5 .left)
 
 pub is-labelled-spec : {M : Type 1} → statement M
 is-labelled-spec =

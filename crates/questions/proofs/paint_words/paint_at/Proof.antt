@@ -1,121 +1,119 @@
-use lib.ListN.{getD}
-use Prim.Native.Nat.{_+_}
-use mathlib.Core.Path.{sym, ap, subst, _∙_}
+-- `questions::paint_words::paint_at` meets its contract.
+use Rattle.questions.specs.PaintLaws.{paint-inside, linear-is, radial-is, paint-is-plain, start-is, end-is, last-is}
 use Rattle.drawing.specs.Questions.{part, plainValue, paintValue}
-use Rattle.questions.specs.PaintQuestion.{plainAt, PlainHere}
-use Rattle.questions.specs.PaintPlaceLaws.{plain-begins, paint-lettered, paint-plain}
+use mathlib.Core.Path.{ap, _∙_}
+use native.Mathlib.Omega.{arith}
 use borrow.Author.Needs.{needs}
 use Rattle.questions.proofs.paint_words.paint_at.Statement.{statement}
 use Rattle.questions.proofs.paint_words.paint_at.Tie as tie
 use Rattle.questions.proofs.paint_words.paint_at.Reads as reads
 use Rattle.questions.proofs.paint_words.paint_at.Lts as lts
-use Rattle.questions.proofs.paint_words.last_at.Reads as last-at-reads
 use Rattle.questions.proofs.paint_words.plain_at.Reads as plain-at-reads
-use Rattle.questions.proofs.paint_words.plain_end.Reads as plain-end-reads
+use Rattle.questions.proofs.places.behind.Reads as behind-reads
 
--- src/paint_words.rt:90:18
+-- src/paint_words.rt:66:18
 mul-letter : tie.Need-mul-letter
 mul-letter c = search needs
 
--- src/paint_words.rt:90:18
+-- src/paint_words.rt:66:18
 shared-slice-read-letter : tie.Need-shared-slice-read-letter
-shared-slice-read-letter c = search needs
+shared-slice-read-letter c = paint-inside (c .before .before .args .version) (c .before .before .pre .here)
 
--- src/paint_words.rt:93:36
+-- src/paint_words.rt:68:36
+add-behind : tie.Need-add-behind
+add-behind c = search needs
+
+-- src/paint_words.rt:68:13
+behind-requires : tie.Need-behind-requires
+behind-requires c κs = (omega (arith, paint-inside (c .before .before .before .args .version) (c .before .before .before .pre .here)), c .before .before .before .pre .short)
+
+-- src/paint_words.rt:69:13
+behind-requires-2 : tie.Need-behind-requires-2
+behind-requires-2 c κs = search needs
+
+-- src/paint_words.rt:71:36
 add-plain-at : tie.Need-add-plain-at
 add-plain-at c = search needs
 
--- src/paint_words.rt:93:20
+-- src/paint_words.rt:71:20
 plain-at-requires : tie.Need-plain-at-requires
-plain-at-requires c κs = (c .before .before .before .pre .linear (c .if1 .taken)) .start
+plain-at-requires c κs = start-is (linear-is (c .before .before .before .before .before .args .version) (c .before .before .before .before .before .pre .value) (c .before .before .before .before .before .pre .here) (c .before .before .if1 .taken)) .here
 
--- src/paint_words.rt:94:51
-add-plain-end : tie.Need-add-plain-end
-add-plain-end c = search needs
-
--- src/paint_words.rt:94:34
-plain-end-requires : tie.Need-plain-end-requires
-plain-end-requires c κs = plain-begins (c .before .before .before .before .args .words .now) (c .before .before .before .before .args .at + 1) ((c .before .before .before .before .pre .linear (c .before .if1 .taken)) .start .inside)
-
--- src/paint_words.rt:94:18
+-- src/paint_words.rt:72:18
 plain-at-requires-2 : tie.Need-plain-at-requires-2
-plain-at-requires-2 c κs = subst (PlainHere (c .before .before .before .before .before .args .words .now)) (sym (c .plain-end .ensures)) ((c .before .before .before .before .before .pre .linear (c .before .before .if1 .taken)) .end)
+plain-at-requires-2 c κs = end-is (linear-is (c .before .before .before .before .before .before .args .version) (c .before .before .before .before .before .before .pre .value) (c .before .before .before .before .before .before .pre .here) (c .before .before .before .if1 .taken)) (c .before .before .behind .ensures .is) .here
 
--- src/paint_words.rt:95:45
-add-last-at : tie.Need-add-last-at
-add-last-at c = search needs
+-- src/paint_words.rt:73:24
+mul-t17 : tie.Need-mul-t17
+mul-t17 c = search needs
 
--- src/paint_words.rt:95:30
-last-at-requires : tie.Need-last-at-requires
-last-at-requires c κs = (c .before .before .before .before .before .before .pre .linear (c .before .before .before .if1 .taken))
+-- src/paint_words.rt:73:24
+shared-slice-read-t19 : tie.Need-shared-slice-read-t19
+shared-slice-read-t19 c = last-is (linear-is (c .before .before .before .before .before .before .before .before .args .version) (c .before .before .before .before .before .before .before .before .pre .value) (c .before .before .before .before .before .before .before .before .pre .here) (c .before .before .before .before .before .if1 .taken)) (c .before .before .before .before .behind .ensures .is) (c .before .before .before .behind2 .ensures .is) .0
 
--- src/paint_words.rt:95:24
-mul-t15 : tie.Need-mul-t15
-mul-t15 c = let h = (c .before .before .before .before .before .before .before .pre .linear (c .before .before .before .before .if1 .taken)) .last in let e = c .last-at .ensures in search needs
-
--- src/paint_words.rt:95:24
-shared-slice-read-t17 : tie.Need-shared-slice-read-t17
-shared-slice-read-t17 c = let h = (c .before .before .before .before .before .before .before .before .pre .linear (c .before .before .before .before .before .if1 .taken)) .last in let e = c .before .last-at .ensures in search needs
-
--- src/paint_words.rt:92:9
+-- src/paint_words.rt:70:9
 returns : tie.Need-returns
-returns c = let start = c .before .before .before .before .plain-at .ensures in
-    let end = c .before .before .plain-at2 .ensures ∙ ap (λ n. plainValue (plainAt (c .before .before .before .before .before .before .before .before .args .words .now) n)) (c .before .before .before .plain-end .ensures) in
-    let last = ap (λ n. getD (c .before .before .before .before .before .before .before .before .args .words .now) n 0) (c .before .last-at .ensures) in
-    let same = ap (λ p. paintValue (part p)) (paint-lettered (c .before .before .before .before .before .before .before .before .args .words .now) (c .before .before .before .before .before .before .before .before .args .at) (c .before .before .before .before .before .if1 .taken)) in
+returns c = λ p here.
+    let it = linear-is (c .before .before .before .before .before .before .before .before .args .version) p here (c .before .before .before .before .before .if1 .taken) in
+    let start = c .before .before .plain-at .ensures ∙ ap plainValue (start-is it .is) in
+    let end = c .before .plain-at2 .ensures ∙ ap plainValue (end-is it (c .before .before .before .before .behind .ensures .is) .is) in
+    let last = last-is it (c .before .before .before .before .behind .ensures .is) (c .before .before .before .behind2 .ensures .is) .1 in
+    let same = ap (λ x. paintValue (part x)) (it .is) in
     cc
 
--- src/paint_words.rt:100:36
+-- src/paint_words.rt:77:36
+add-behind-2 : tie.Need-add-behind-2
+add-behind-2 c = search needs
+
+-- src/paint_words.rt:77:13
+behind-requires-3 : tie.Need-behind-requires-3
+behind-requires-3 c κs = (omega (arith, paint-inside (c .before .before .before .before .args .version) (c .before .before .before .before .pre .here)), c .before .before .before .before .pre .short)
+
+-- src/paint_words.rt:78:13
+behind-requires-4 : tie.Need-behind-requires-4
+behind-requires-4 c κs = search needs
+
+-- src/paint_words.rt:80:36
 add-plain-at-2 : tie.Need-add-plain-at-2
 add-plain-at-2 c = search needs
 
--- src/paint_words.rt:100:20
+-- src/paint_words.rt:80:20
 plain-at-requires-3 : tie.Need-plain-at-requires-3
-plain-at-requires-3 c κs = (c .before .before .before .before .pre .radial (c .if2 .taken)) .start
+plain-at-requires-3 c κs = start-is (radial-is (c .before .before .before .before .before .before .args .version) (c .before .before .before .before .before .before .pre .value) (c .before .before .before .before .before .before .pre .here) (c .before .before .if2 .taken)) .here
 
--- src/paint_words.rt:101:51
-add-plain-end-2 : tie.Need-add-plain-end-2
-add-plain-end-2 c = search needs
-
--- src/paint_words.rt:101:34
-plain-end-requires-2 : tie.Need-plain-end-requires-2
-plain-end-requires-2 c κs = plain-begins (c .before .before .before .before .before .args .words .now) (c .before .before .before .before .before .args .at + 1) ((c .before .before .before .before .before .pre .radial (c .before .if2 .taken)) .start .inside)
-
--- src/paint_words.rt:101:18
+-- src/paint_words.rt:81:18
 plain-at-requires-4 : tie.Need-plain-at-requires-4
-plain-at-requires-4 c κs = subst (PlainHere (c .before .before .before .before .before .before .args .words .now)) (sym (c .plain-end2 .ensures)) ((c .before .before .before .before .before .before .pre .radial (c .before .before .if2 .taken)) .end)
+plain-at-requires-4 c κs = end-is (radial-is (c .before .before .before .before .before .before .before .args .version) (c .before .before .before .before .before .before .before .pre .value) (c .before .before .before .before .before .before .before .pre .here) (c .before .before .before .if2 .taken)) (c .before .before .behind3 .ensures .is) .here
 
--- src/paint_words.rt:102:44
-add-last-at-2 : tie.Need-add-last-at-2
-add-last-at-2 c = search needs
+-- src/paint_words.rt:82:23
+mul-t24 : tie.Need-mul-t24
+mul-t24 c = search needs
 
--- src/paint_words.rt:102:29
-last-at-requires-2 : tie.Need-last-at-requires-2
-last-at-requires-2 c κs = (c .before .before .before .before .before .before .before .pre .radial (c .before .before .before .if2 .taken))
+-- src/paint_words.rt:82:23
+shared-slice-read-t26 : tie.Need-shared-slice-read-t26
+shared-slice-read-t26 c = last-is (radial-is (c .before .before .before .before .before .before .before .before .before .args .version) (c .before .before .before .before .before .before .before .before .before .pre .value) (c .before .before .before .before .before .before .before .before .before .pre .here) (c .before .before .before .before .before .if2 .taken)) (c .before .before .before .before .behind3 .ensures .is) (c .before .before .before .behind4 .ensures .is) .0
 
--- src/paint_words.rt:102:23
-mul-t25 : tie.Need-mul-t25
-mul-t25 c = let h = (c .before .before .before .before .before .before .before .before .pre .radial (c .before .before .before .before .if2 .taken)) .last in let e = c .last-at2 .ensures in search needs
-
--- src/paint_words.rt:102:23
-shared-slice-read-t27 : tie.Need-shared-slice-read-t27
-shared-slice-read-t27 c = let h = (c .before .before .before .before .before .before .before .before .before .pre .radial (c .before .before .before .before .before .if2 .taken)) .last in let e = c .before .last-at2 .ensures in search needs
-
--- src/paint_words.rt:99:9
+-- src/paint_words.rt:79:9
 returns-2 : tie.Need-returns-2
-returns-2 c = let start = c .before .before .before .before .plain-at3 .ensures in
-    let end = c .before .before .plain-at4 .ensures ∙ ap (λ n. plainValue (plainAt (c .before .before .before .before .before .before .before .before .before .args .words .now) n)) (c .before .before .before .plain-end2 .ensures) in
-    let last = ap (λ n. getD (c .before .before .before .before .before .before .before .before .before .args .words .now) n 0) (c .before .last-at2 .ensures) in
-    let same = ap (λ p. paintValue (part p)) (paint-lettered (c .before .before .before .before .before .before .before .before .before .args .words .now) (c .before .before .before .before .before .before .before .before .before .args .at) (c .before .before .before .before .before .if2 .taken)) in
+returns-2 c = λ p here.
+    let it = radial-is (c .before .before .before .before .before .before .before .before .before .args .version) p here (c .before .before .before .before .before .if2 .taken) in
+    let start = c .before .before .plain-at3 .ensures ∙ ap plainValue (start-is it .is) in
+    let end = c .before .plain-at4 .ensures ∙ ap plainValue (end-is it (c .before .before .before .before .behind3 .ensures .is) .is) in
+    let last = last-is it (c .before .before .before .before .behind3 .ensures .is) (c .before .before .before .behind4 .ensures .is) .1 in
+    let same = ap (λ x. paintValue (part x)) (it .is) in
     cc
 
--- src/paint_words.rt:105:24
+-- src/paint_words.rt:85:24
 plain-at-requires-5 : tie.Need-plain-at-requires-5
-plain-at-requires-5 c κs = c .before .before .before .before .pre .plain (c .before .if1 .left) (c .if2 .left)
+plain-at-requires-5 c κs = paint-is-plain (c .before .before .before .before .args .version) (c .before .before .before .before .pre .value) (c .before .before .before .before .pre .here) (c .before .if1 .left) (c .if2 .left) .1 .1 .here
 
--- src/paint_words.rt:86:1
+-- src/paint_words.rt:62:1
 returns-3 : tie.Need-returns-3
-returns-3 c = let one = c .plain-at5 .ensures in let same = ap (λ p. paintValue (part p)) (paint-plain (c .before .before .before .before .before .args .words .now) (c .before .before .before .before .before .args .at) (c .before .before .if1 .left) (c .before .if2 .left)) in cc
+returns-3 c = λ p here.
+    let it = paint-is-plain (c .before .before .before .before .before .args .version) p here (c .before .before .if1 .left) (c .before .if2 .left) in
+    let one = c .plain-at5 .ensures ∙ ap plainValue (it .1 .1 .is) in
+    let same = ap (λ x. paintValue (part x)) (it .1 .0) in
+    cc
 
 pub paint-at-spec : {M : Type 1} → statement M
 paint-at-spec =
@@ -123,25 +121,23 @@ paint-at-spec =
     (tie.spec
     mul-letter
     shared-slice-read-letter
+    add-behind
+    behind-requires
+    behind-requires-2
     add-plain-at
     plain-at-requires
-    add-plain-end
-    plain-end-requires
     plain-at-requires-2
-    add-last-at
-    last-at-requires
-    mul-t15
-    shared-slice-read-t17
+    mul-t17
+    shared-slice-read-t19
     returns
+    add-behind-2
+    behind-requires-3
+    behind-requires-4
     add-plain-at-2
     plain-at-requires-3
-    add-plain-end-2
-    plain-end-requires-2
     plain-at-requires-4
-    add-last-at-2
-    last-at-requires-2
-    mul-t25
-    shared-slice-read-t27
+    mul-t24
+    shared-slice-read-t26
     returns-2
     plain-at-requires-5
     returns-3)

@@ -1,67 +1,64 @@
 -- `questions::rows::end_of` meets its contract.
 use Rattle.questions.specs.EndLaws.{group-end, leaf-end}
-use Rattle.format.specs.LeafLaws.{known-below}
-use mir.Syntax.{w32}
-use mathlib.Core.Path.{refl}
 use borrow.Author.Needs.{needs}
 use Rattle.questions.proofs.rows.end_of.Statement.{statement}
 use Rattle.questions.proofs.rows.end_of.Tie as tie
 use Rattle.questions.proofs.rows.end_of.Reads as reads
 use Rattle.questions.proofs.rows.end_of.Lts as lts
-use Rattle.questions.proofs.rows.leaf_fields.Reads as leaf-fields-reads
+use Rattle.questions.proofs.places.behind.Reads as behind-reads
 use Rattle.table.proofs.rows.letter_of.Reads as letter-of-reads
 
--- src/rows.rt:37:25
+-- src/rows.rt:12:25
 mul-kind : tie.Need-mul-kind
 mul-kind c = search needs
 
--- src/rows.rt:37:16
+-- src/rows.rt:12:16
 mul-kind-2 : tie.Need-mul-kind-2
 mul-kind-2 c = search needs
 
--- src/rows.rt:37:16
+-- src/rows.rt:12:16
 shared-slice-read-kind : tie.Need-shared-slice-read-kind
 shared-slice-read-kind c = search needs
 
--- src/rows.rt:38:26
+-- src/rows.rt:13:26
 mul-start : tie.Need-mul-start
 mul-start c = search needs
 
--- src/rows.rt:38:26
+-- src/rows.rt:13:26
 add-start : tie.Need-add-start
 add-start c = search needs
 
--- src/rows.rt:38:17
+-- src/rows.rt:13:17
 mul-start-2 : tie.Need-mul-start-2
 mul-start-2 c = search needs
 
--- src/rows.rt:38:17
+-- src/rows.rt:13:17
 shared-slice-read-start : tie.Need-shared-slice-read-start
 shared-slice-read-start c = search needs
 
--- src/rows.rt:38:17
+-- src/rows.rt:13:17
 cast-start : tie.Need-cast-start
 cast-start c = search needs
 
--- src/rows.rt:40:16
-add-result : tie.Need-add-result
-add-result c = search needs
+-- src/rows.rt:15:9
+behind-requires : tie.Need-behind-requires
+behind-requires c κs = search needs
 
--- src/rows.rt:40:9
+-- src/rows.rt:15:9
 returns : tie.Need-returns
-returns c = λ o body. group-end (c .before .before .before .before .before .args .contents .now) (c .before .before .before .before .before .args .words .now) (c .before .before .before .before .before .args .version) (c .before .before .before .before .before .args .row) o body (c .if1 .taken)
+returns c = λ o body. group-end (c .before .before .before .before .before .before .args .contents .now) (c .before .before .before .before .before .before .args .words .now) (c .before .before .before .before .before .before .args .version) (c .before .before .before .before .before .before .args .row) o body (c .before .if1 .taken) (c .behind .ensures .is)
 
--- src/rows.rt:42:9
+-- src/rows.rt:17:9
 letter-of-requires : tie.Need-letter-of-requires
 letter-of-requires c κs = search needs
 
--- src/rows.rt:43:9
-leaf-fields-requires : tie.Need-leaf-fields-requires
-leaf-fields-requires c κs = search needs
+-- src/rows.rt:18:5
+behind-requires-2 : tie.Need-behind-requires-2
+behind-requires-2 c κs = search needs
 
--- src/rows.rt:33:1
+-- src/rows.rt:8:1
 returns-2 : tie.Need-returns-2
-returns-2 c = λ o body. leaf-end (c .before .before .before .before .before .before .before .args .contents .now) (c .before .before .before .before .before .before .before .args .words .now) (c .before .before .before .before .before .before .before .args .version) (c .before .before .before .before .before .before .before .args .row) o body (c .before .before .if1 .left) (c .before .letter-of .ensures .0) (known-below w32 (c .before .before .before .before .before .before .before .args .words .now) (c .before .before .before .before .before .shared-slice-known2 .given)) refl refl (c .leaf-fields .ensures)
+returns-2 c = λ o body. leaf-end (c .before .before .before .before .before .before .before .args .contents .now) (c .before .before .before .before .before .before .before .args .words .now) (c .before .before .before .before .before .before .before .args .version) (c .before .before .before .before .before .before .before .args .row) o body (c .before .before .if1 .left) (c .before .letter-of .ensures .0) (c .behind2 .ensures .is)
 
 pub end-of-spec : {M : Type 1} → statement M
 end-of-spec =
@@ -75,8 +72,8 @@ end-of-spec =
     mul-start-2
     shared-slice-read-start
     cast-start
-    add-result
+    behind-requires
     returns
     letter-of-requires
-    leaf-fields-requires
+    behind-requires-2
     returns-2)

@@ -1,3 +1,4 @@
+-- `questions::shown::shown` meets its contract.
 use lib.ListN.{length}
 use native.Mathlib.Omega.{arith}
 use borrow.Author.Tests.{lt-ltb, le-ltb}

@@ -1,0 +1,177 @@
+-- Where the fields of a row's text stand, and the chars of its strings.
+use mathlib.Core.Path.{_≡_, refl, sym, ap, ap₂, _∙_}
+use mathlib.Core.Option.{Option, none, some, Option·map}
+use Prim.Native.Nat.{ℕ, suc, _+_, _-_, _<_, _≤_}
+use native.Mathlib.Omega.{arith}
+use mathlib.Core.List.{List, [], _∷_, _++_, append-assoc}
+use lib.ListN.{length, getD}
+use Rattle.format.specs.Kind.{Field}
+use Rattle.format.specs.Codec.{spellAll}
+use Rattle.format.specs.FixedCodec.{spellFixed}
+use Rattle.format.specs.Format.{fields}
+use Rattle.format.specs.Layout.{Layout, _&_}
+use Rattle.drawing.specs.Codecs.{wordFields}
+use Rattle.drawing.specs.declared.Span.{Span}
+use Rattle.drawing.specs.declared.TextAnswer.{TextAnswer}
+use Rattle.drawing.specs.Limits.{lengthLimit}
+use Rattle.drawing.specs.String.{String, string}
+use Rattle.drawing.specs.Choices.{ifFlag}
+use Rattle.drawing.specs.Paint as P
+use Rattle.drawing.specs.Text as T
+use Rattle.drawing.specs.Object.{path, text, bitmap, Object, leaf, group}
+use Rattle.drawing.specs.ObjectId.{textOf}
+use Rattle.drawing.specs.Table.{wordsOf, kindIn, startIn}
+use Rattle.drawing.specs.Questions.{orRefusal, leafPart, span, alternativeSpan, textValue}
+use Rattle.questions.specs.declared.Part.the-variants.{BeforeAlternative}
+use Rattle.questions.specs.RowBodies.{RowBody}
+use Rattle.questions.specs.WordLaws.{string-words}
+use Rattle.questions.specs.Places.{Here, Behind, Holds}
+use Rattle.questions.specs.PlaceLaws.{here-as, here-behind, first-word, here-first, here-next, here-later, next-ends}
+use Rattle.questions.specs.Parts.{layoutOf}
+use Rattle.questions.specs.EndLaws.{leaf-here}
+use Rattle.questions.specs.TextQuestion.{noText, CharsRead, alternativeIn, AlternativeRead}
+
+-- ---- strings
+
+-- The first word of a string is its length.
+pub length-first : (least : ℕ) {ws : List ℕ} {at : ℕ} {s : String} → Here (string least) ws at s → (at < length ws) × (getD ws at 0 ≡ length s)
+length-first least {s = s} here = first-word here (string-words least s (here .good))
+
+-- Where the chars of the last string begin.
+chars-begin : (at long n : ℕ) {behind size : ℕ} → at ≤ behind → behind + size ≡ at + long → size ≡ suc n → behind + 1 ≡ at + (long - n)
+chars-begin at long n later ends size-is = omega arith
+
+-- ---- LaTeX fields
+
+regroup : (a b c d : List Field) (x y : Field) (s : List Field) → a ++ (b ++ (c ++ (d ++ (x ∷ y ∷ s)))) ≡ (a ++ (b ++ (c ++ (d ++ (x ∷ y ∷ []))))) ++ s
+regroup a b c d x y s = simp append-assoc
+
+abbrev before : Layout (String × (String × (String × (String × (ℕ × ℕ)))))
+before = layoutOf BeforeAlternative 0
+
+module _ {ws : List ℕ} {at : ℕ} where
+  pub latex-inside : (o : Option T.Latex) → Here (ifFlag T.latex) ws at o → at < length ws
+  latex-inside none here = first-word here refl .0
+  latex-inside (some l) here = first-word here refl .0
+
+  -- The alternative stands behind the flag and the fields before it, and ends all of them.
+  module _ (l : T.Latex) (here : Here (ifFlag T.latex) ws at (some l)) where
+    abbrev parts : (String × (String × (String × (String × (ℕ × ℕ))))) × String
+    parts = ((l .family, (l .series, (l .shape, (l .size, (l .horizontal, l .vertical))))), l .alternative)
+
+    latex-words : wordsOf (ifFlag T.latex) (some l) ≡ 1 ∷ wordsOf (before & string 0) parts
+    latex-words =
+        let f = fields (string 0 .format) in
+        ap (λ fs. 1 ∷ spellAll (spellFixed wordFields) fs) (regroup (f (l .family)) (f (l .series)) (f (l .shape)) (f (l .size)) _ _ (f (l .alternative)))
+
+    fields-here : Here (before & string 0) ws (at + 1) parts
+    fields-here =
+        let g = here .good .1 .1 .1 in
+        here-behind here (1 ∷ []) (before & string 0) latex-words ((g .0, (g .1 .0, (g .1 .1 .0, (g .1 .1 .1 .0, (g .1 .1 .1 .1 .0, g .1 .1 .1 .1 .1 .0))))), g .1 .1 .1 .1 .1 .1)
+
+    module _ {alternative : ℕ} (is : Behind before ws (at + 1) alternative) where
+      pub alternative-here : Here (string 0) ws alternative (l .alternative)
+      alternative-here = here-next before (string 0) fields-here is
+
+      alternative-begins : alternative + 1 ≡ at + (length (wordsOf (ifFlag T.latex) (some l)) - length (l .alternative))
+      alternative-begins =
+          flagged (length (wordsOf (before & string 0) parts)) (length (l .alternative)) (here-later before (string 0) fields-here is) (next-ends before (string 0) fields-here is)
+          (ap length (string-words 0 (l .alternative) (fields-here .good .1)))
+          ∙ ap (λ k. at + (k - length (l .alternative))) (sym (ap length latex-words))
+        where
+          flagged : (long n : ℕ) {size : ℕ} → at + 1 ≤ alternative → alternative + size ≡ at + 1 + long → size ≡ suc n → alternative + 1 ≡ at + (suc long - n)
+          flagged long n later ends size-is = chars-begin at (suc long) n (omega (arith, later)) (omega (arith, ends)) size-is
+
+  -- What is read where the flag is 1, and where it is not.
+  pub alternative-read : getD ws at 0 ≡ 1 → {alternative : ℕ} → Behind before ws (at + 1) alternative → {r : Span} → CharsRead ws alternative r → AlternativeRead ws at r
+  alternative-read flag is reads none here = absurd (let z : _≡_ {A = ℕ} 0 1 = sym (first-word here refl .1) ∙ flag in omega arith)
+  alternative-read flag is reads (some l) here = reads 0 (l .alternative) (alternative-here l here is) ∙ ap (λ n. span n (l .alternative)) (alternative-begins l here is)
+
+  pub alternative-inside : getD ws at 0 ≡ 1 → {alternative : ℕ} → Behind before ws (at + 1) alternative → (o : Option T.Latex) → Here (ifFlag T.latex) ws at o → alternative < length ws
+  alternative-inside flag is none here = absurd (let z : _≡_ {A = ℕ} 0 1 = sym (first-word here refl .1) ∙ flag in omega arith)
+  alternative-inside flag is (some l) here = length-first 0 (alternative-here l here is) .0
+
+  pub no-alternative : (getD ws at 0 ≡ 1 → ⊥) → AlternativeRead ws at (span 0 [])
+  no-alternative other none here = refl
+  no-alternative other (some l) here = absurd (other (first-word here refl .1))
+
+-- ---- texts
+
+module _ (c bs : List ℕ) (v r : ℕ) where
+  -- A row's kind says that its object is a text.
+  pub of-text : (P : Object → Type 0) → ((t : T.Text) (d : String) → RowBody c bs v r (leaf (text t) d) → P (leaf (text t) d))
+      → (o : Object) → RowBody c bs v r o → kindIn c r ≡ 3 → P o
+  of-text P by (leaf (path p) d) row kind = absurd (omega (arith, row .kind-is))
+  of-text P by (leaf (text t) d) row kind = by t d row
+  of-text P by (leaf (bitmap b) d) row kind = absurd (omega (arith, row .kind-is))
+  of-text P by (group os d) row kind = absurd (omega (arith, row .kind-is))
+
+  abbrev pub answered : Object → TextAnswer
+  answered o = textValue (startIn c r) (orRefusal 7 (Option·map (λ t. (v, t)) (leafPart textOf o)))
+
+  abbrev behindLatex : Layout (P.Paint × String)
+  behindLatex = P.paint v & string 1
+
+  abbrev behindFont : Layout (Option T.Latex × (P.Paint × String))
+  behindFont = ifFlag T.latex & behindLatex
+
+  -- Each field of a text stands behind the one before it.
+  module _ {latex : ℕ} (latex-is : Behind T.font bs (startIn c r) latex) (t : T.Text) (d : String) (row : RowBody c bs v r (leaf (text t) d)) where
+    text-here : Here (T.font & behindFont) bs (startIn c r) (T.fontOf t, (t .latex, (t .paint, t .text)))
+    text-here = here-as (leaf-here c bs v r (text t) d row) (T.font & behindFont) refl (row .good .0 .1 .1)
+
+    font-behind : Here behindFont bs latex (t .latex, (t .paint, t .text))
+    font-behind = here-next T.font behindFont text-here latex-is
+
+    pub text-latex : Here (ifFlag T.latex) bs latex (t .latex)
+    text-latex = here-first (ifFlag T.latex) behindLatex font-behind
+
+    module _ {paint : ℕ} (paint-is : Behind (ifFlag T.latex) bs latex paint) where
+      latex-behind : Here behindLatex bs paint (t .paint, t .text)
+      latex-behind = here-next (ifFlag T.latex) behindLatex font-behind paint-is
+
+      pub text-paint : Here (P.paint v) bs paint (t .paint)
+      text-paint = here-first (P.paint v) (string 1) latex-behind
+
+      module _ {chars : ℕ} (chars-are : Behind (P.paint v) bs paint chars) where
+        pub text-chars : Here (string 1) bs chars (t .text)
+        text-chars = here-next (P.paint v) (string 1) latex-behind chars-are
+
+        text-begins : chars + 1 ≡ startIn c r + (length (wordsOf (T.text v) t) - length (t .text))
+        text-begins =
+            chars-begin (startIn c r) (length (wordsOf (T.font & behindFont) (T.fontOf t, (t .latex, (t .paint, t .text))))) (length (t .text))
+            (omega (arith, here-later T.font behindFont text-here latex-is, here-later (ifFlag T.latex) behindLatex font-behind paint-is, here-later (P.paint v) (string 1) latex-behind chars-are))
+            (next-ends (P.paint v) (string 1) latex-behind chars-are ∙ next-ends (ifFlag T.latex) behindLatex font-behind paint-is ∙ next-ends T.font behindFont text-here latex-is)
+            (ap length (string-words 1 (t .text) (text-chars .good)))
+
+        alternative-same : (o : Option T.Latex) → alternativeIn latex o ≡ alternativeSpan (startIn c r) t o
+        alternative-same none = refl
+        alternative-same (some l) =
+            ap (λ n. span (n + (length (wordsOf (ifFlag T.latex) (some l)) - length (l .alternative))) (l .alternative)) (latex-is (T.fontOf t) (here-first T.font behindFont text-here))
+
+        text-spans : {a s : Span} → AlternativeRead bs latex a → CharsRead bs chars s → _≡_ {A = TextAnswer} (record { number = 0; alternative = a; text = s }) (answered (leaf (text t) d))
+        text-spans alternative-is text-is =
+            ap₂ (λ a s. record { number = 0; alternative = a; text = s })
+            (alternative-is (t .latex) text-latex ∙ alternative-same (t .latex))
+            (text-is 1 (t .text) text-chars ∙ ap (λ n. span n (t .text)) text-begins)
+
+  -- ---- the answers
+
+  module _ (o : Object) (row : RowBody c bs v r o) where
+    module _ (kind : kindIn c r ≡ 3) {latex : ℕ} (latex-is : Behind T.font bs (startIn c r) latex) where
+      pub latex-holds : length bs ≤ lengthLimit → Holds (ifFlag T.latex) bs latex
+      latex-holds short = of-text (λ x. Holds (ifFlag T.latex) bs latex) (λ t d row. record { short = short; value = t .latex; here = text-latex latex-is t d row }) o row kind
+
+      module _ {paint chars : ℕ} (paint-is : Behind (ifFlag T.latex) bs latex paint) (chars-are : Behind (P.paint v) bs paint chars) where
+        pub chars-inside : chars < length bs
+        chars-inside = of-text (λ x. chars < length bs) (λ t d row. length-first 1 (text-chars latex-is t d row paint-is chars-are) .0) o row kind
+
+        pub text-answered : {a s : Span} → AlternativeRead bs latex a → CharsRead bs chars s → record { number = 0; alternative = a; text = s } ≡ answered o
+        text-answered {a} {s} alternative-is text-is =
+            of-text (λ x. record { number = 0; alternative = a; text = s } ≡ answered x) (λ t d row. text-spans latex-is t d row paint-is chars-are alternative-is text-is) o row kind
+
+  pub no-text-answered : (o : Object) → RowBody c bs v r o → (kindIn c r ≡ 3 → ⊥) → noText 7 ≡ answered o
+  no-text-answered (leaf (path p) d) row other = refl
+  no-text-answered (leaf (text t) d) row other = absurd (other (row .kind-is))
+  no-text-answered (leaf (bitmap b) d) row other = refl
+  no-text-answered (group os d) row other = refl
