@@ -19,7 +19,7 @@ extern "C" {
 
 /* The numbers given back. The offset is the first byte of the field at fault where nothing else is said; for 1 to 13 both counts are 0. */
 enum {
-    JDR_ACCEPTED = 0,            /* done; the offset is the file's length, the counts are those of the table */
+    JDR_ACCEPTED = 0,            /* done; the offset is the file's length, the counts are those of the table (jdr_list says its own) */
     JDR_TOO_LONG = 1,            /* a file of more than JDR_LONGEST_FILE bytes; the offset is that limit */
     JDR_CUT = 2,                 /* the file ends before or within the field */
     JDR_NO_JDR = 3,              /* the first field is not 'JDR' */
@@ -114,7 +114,7 @@ struct jdr_answer jdr_write(const uint32_t *contents, size_t contents_len, const
                             size_t file_len);
 
 /* Lists the rows of a table, whose used words are lent exactly, that have the label for their description: its chars, compared whole. 0 with
- * how many they are as rows, and the row numbers in the order in which the objects open; 16; or 18. */
+ * how many they are as rows, offset and words 0, and the row numbers in the order in which the objects open; 16; or 18. */
 struct jdr_answer jdr_list(const uint32_t *contents, size_t contents_len, const uint32_t *bodies, size_t bodies_len, const uint16_t *label,
                            size_t label_len, uint32_t *entries, size_t entries_len);
 

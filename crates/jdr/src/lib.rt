@@ -1,5 +1,5 @@
 // The calls of the library, for other programs: each with its contract, which decides its answer and all lent memory for every input. The numbers of
-// answers are 01's; the definitions that the contracts cite are in crates/drawing/specs.
+// answers are 01's; the definitions are in crates/drawing/specs, and the contracts of list, paint and text around them in crates/questions/specs.
 ghost use Rattle.drawing.specs.Answers.{Reads, Checks, Writes};
 ghost use Rattle.questions.specs.Lists.{Lists};
 ghost use Rattle.questions.specs.PaintQuestion.{Paints};
