@@ -4,7 +4,7 @@ use mathlib.Core.Bool.{true}
 use Prim.Native.Nat.{_^_}
 use Rattle.format.specs.Kind as K
 use Rattle.fields.specs.declared.Kind.{Kind}
-use Rattle.fields.specs.declared.Kind.the-variants.{Magic, VersionLength, Version, OuterId, ObjectId, MemberCount}
+use Rattle.fields.specs.declared.Kind.the-variants.{Magic, VersionLength, Version, OuterId}
 use Rattle.fields.specs.Kinds.{kindOf}
 use Rattle.fields.specs.Turn.{isSize}
 
@@ -17,5 +17,3 @@ readable Magic = record { sized = refl; all = refl }
 readable VersionLength = record { sized = refl; all = refl }
 readable Version = record { sized = refl; all = refl }
 readable OuterId = record { sized = refl; all = refl }
-readable (ObjectId deeper) = record { sized = refl; all = refl }
-readable MemberCount = record { sized = refl; all = refl }

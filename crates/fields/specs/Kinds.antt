@@ -3,14 +3,11 @@ use lib.Dec.{eqb}
 use Prim.Native.Char.{code}
 use Rattle.format.specs.Kind as K
 use Rattle.drawing.specs.Fields as F
-use Rattle.drawing.specs.LeafLayout.{isLeaf}
 use Rattle.fields.specs.declared.Kind.{Kind}
-use Rattle.fields.specs.declared.Kind.the-variants.{Magic, VersionLength, Version, OuterId, ObjectId, MemberCount}
+use Rattle.fields.specs.declared.Kind.the-variants.{Magic, VersionLength, Version, OuterId}
 
 abbrev pub kindOf : Kind → K.Kind
 kindOf Magic = F.magic
 kindOf VersionLength = F.versionLength
 kindOf Version = F.versionChars
 kindOf OuterId = F.charWhere (λ c. eqb c (code "G"))
-kindOf (ObjectId deeper) = F.objectId (isLeaf 0) deeper
-kindOf MemberCount = F.memberCount

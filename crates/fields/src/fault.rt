@@ -5,7 +5,6 @@ ghost use Rattle.format.specs.Kind.{values};
 ghost use Rattle.drawing.specs.Fields as F;
 ghost use Rattle.fields.specs.Kinds.{kindOf};
 use crate::Kind;
-use crate::letters::object_fault;
 use crate::ranges::byte_within;
 use crate::ranges::word_reaches;
 
@@ -61,7 +60,5 @@ pub fn fault(kind: Kind, value: u64) -> u32
         Kind::VersionLength => unless(value == 3, 4),
         Kind::Version => version_fault(value),
         Kind::OuterId => unless(value == 71, 7),
-        Kind::ObjectId { deeper } => object_fault(deeper, value),
-        Kind::MemberCount => unless(word_reaches(1, value as u32), 8),
     }
 }

@@ -10,14 +10,12 @@ pub mod ranges;
 pub mod turn;
 pub mod words;
 
-// The kinds of field that are read one by one: those of the head, the ids, and how many members a group has.
+// The kinds of field of a file's head, and the outer group's id.
 pub enum Kind {
     Magic,
     VersionLength,
     Version,
     OuterId,
-    ObjectId { deeper: bool },
-    MemberCount,
 }
 
 // The bytes of a field.
@@ -29,7 +27,5 @@ pub fn size(kind: Kind) -> usize
         Kind::VersionLength => 4,
         Kind::Version => 6,
         Kind::OuterId => 2,
-        Kind::ObjectId { deeper: _ } => 2,
-        Kind::MemberCount => 4,
     }
 }

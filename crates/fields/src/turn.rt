@@ -5,10 +5,15 @@ ghost use Prim.Native.Nat.{_+_, _≤_};
 ghost use lib.ListN.{length, take, drop};
 ghost use Rattle.format.specs.Digits.{number};
 ghost use Rattle.drawing.specs.Codecs.{byteFields};
+ghost use Rattle.drawing.specs.Fields as F;
+ghost use Rattle.drawing.specs.LeafLayout.{isLeaf};
 ghost use Rattle.fields.specs.Kinds.{kindOf};
 ghost use Rattle.fields.specs.Turn.{isSize, Turned};
 use crate::Kind;
 use crate::fault::fault;
+use crate::fault::unless;
+use crate::letters::object_fault;
+use crate::ranges::word_reaches;
 use crate::size;
 use format::decode::byte_at;
 use format::decode::char_at;
@@ -48,6 +53,37 @@ pub fn turn_at(file: &[u8], at: usize, kind: Kind) -> Turn
     let number = fault(kind, value);
     if number == 0 {
         return Turn::Value(value);
+    }
+    Turn::Fault(number)
+}
+
+// An object's id and a group's count, which a scan meets at every object, are read by code of their own.
+pub fn object_id_at(file: &[u8], at: usize, deeper: bool) -> Turn
+    requires { ⌜ at ≤ length (now file) ⌝ }
+    ensures { λ r. ⌜ Turned byteFields (now (file .entry)) at (F.objectId (isLeaf 0) deeper) r ⌝ }
+{
+    if file.len() - at < 2 {
+        return Turn::Fault(2);
+    }
+    let letter = char_at(file, at) as u64;
+    let number = object_fault(deeper, letter);
+    if number == 0 {
+        return Turn::Value(letter);
+    }
+    Turn::Fault(number)
+}
+
+pub fn member_count_at(file: &[u8], at: usize) -> Turn
+    requires { ⌜ at ≤ length (now file) ⌝ }
+    ensures { λ r. ⌜ Turned byteFields (now (file .entry)) at F.memberCount r ⌝ }
+{
+    if file.len() - at < 4 {
+        return Turn::Fault(2);
+    }
+    let count = word_at(file, at);
+    let number = unless(word_reaches(1, count), 8);
+    if number == 0 {
+        return Turn::Value(count as u64);
     }
     Turn::Fault(number)
 }

@@ -1,3 +1,4 @@
+-- Laws of the parts of a drawing, one file a part.
 pub mod PaintLaws
 pub mod MarkerLaws
 pub mod DashLaws

@@ -1,3 +1,4 @@
+-- Passes over fields: the ways, the contracts, and their laws.
 pub mod Routes
 pub mod Sizes
 pub mod TargetLaws

@@ -53,7 +53,14 @@ pub fn field(
     let at = p.at;
     let to = p.to;
     if number != 0 {
-        return Took { value: 0, pass: p };
+        return Took {
+            value: 0,
+            pass: Pass {
+                number: number,
+                at: at,
+                to: to,
+            },
+        };
     }
     let wide = width(reverse, size);
     if units(file, words, reverse) - at < wide {

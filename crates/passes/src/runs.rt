@@ -144,7 +144,11 @@ pub fn run(
     let at = p.at;
     let to = p.to;
     if number != 0 {
-        return p;
+        return Pass {
+            number: number,
+            at: at,
+            to: to,
+        };
     }
     let wide = width(reverse, size);
     let fit = (units(file, words, reverse) - at) / wide;

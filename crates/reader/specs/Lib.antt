@@ -1,3 +1,4 @@
+-- What the reader stores, by what was scanned.
 pub mod FileHere
 pub mod Fills
 pub mod FillLaws

@@ -1,3 +1,4 @@
+-- What a scan comes to, by what the file parses to.
 pub mod Scans
 pub mod ScanLaws
 pub mod ObjectScans

@@ -17,10 +17,8 @@ use Rattle.drawing.specs.Object.{Object, group, Objects, ofList, listOf}
 use Rattle.drawing.specs.LeafLayout.{objectEnd}
 use Rattle.drawing.specs.ObjectLayout.{object, groupBody}
 use Rattle.drawing.specs.Table.{wordsOf, groupWords, rows, rowsAll, bodies, bodiesAll}
-use Rattle.fields.specs.declared.Kind.the-variants as Kind
 use Rattle.fields.specs.declared.turn.Turn.{Turn}
 use Rattle.fields.specs.declared.turn.Turn.the-variants as Turn
-use Rattle.fields.specs.Kinds.{kindOf}
 use Rattle.fields.specs.Turn.{Turned}
 use Rattle.scanner.specs.declared.Scan.{Scan}
 use Rattle.scanner.specs.declared.Scan.the-variants as Scan
@@ -128,7 +126,7 @@ same-group-end v total rs ws more kept os (found d rest) rows-are words-are =
     ∙ ap (λ n. Scan.Done (total - length rest) (rs + rowsAll (ofList os)) n) sum
 same-group-end v total rs ws more kept os (refused n place) rows-are words-are = refl
 
-module _ (file : List ℕ) (known : (i : ℕ) → Fits w8 (getD file i 0)) (v deep at rs ws : ℕ) (placed : Placed (length file) at rs ws) (t : Turn) (turned : Turned byteFields file at (kindOf Kind.MemberCount) t) where
+module _ (file : List ℕ) (known : (i : ℕ) → Fits w8 (getD file i 0)) (v deep at rs ws : ℕ) (placed : Placed (length file) at rs ws) (t : Turn) (turned : Turned byteFields file at memberCount t) where
   -- A group's body, as its parts parse.
   parts : parse bytes (groupBody v (object v deep)) (drop at file)
       ≡ andThen (bytes .read memberCount (drop at file)) (λ n rest.
@@ -137,7 +135,7 @@ module _ (file : List ℕ) (known : (i : ℕ) → Fits w8 (getD file i 0)) (v de
 
   pub group-fault : (n : ℕ) → t ≡ Turn.Fault n → ScannedGroup file v deep at rs ws (Scan.Refused n at)
   group-fault n is =
-      let r : Turned byteFields file at (kindOf Kind.MemberCount) (Turn.Fault n) = rw is at turned in
+      let r : Turned byteFields file at memberCount (Turn.Fault n) = rw is at turned in
       record {
         says =
             ap (λ m. Scan.Refused n m) (sym (place-of file at (placed .inside)))
@@ -150,14 +148,14 @@ module _ (file : List ℕ) (known : (i : ℕ) → Fits w8 (getD file i 0)) (v de
     -- The members begin behind the count.
     pub group-members : Placed (length file) (at + 4) rs (ws + 1)
     group-members =
-        let r : Turned byteFields file at (kindOf Kind.MemberCount) (Turn.Value members) = rw is at turned in
+        let r : Turned byteFields file at memberCount (Turn.Value members) = rw is at turned in
         let inside : at + 4 ≤ length file = r .beside .inside in
         record { short = placed .short; inside = inside; few-rows = omega (arith, placed .few-rows); few-words = omega (arith, placed .few-words) }
 
     from-members : parse bytes (groupBody v (object v deep)) (drop at file)
         ≡ andThen (parse bytes (repeat members (object v deep)) (drop (at + 4) file)) (λ os rest₂. andThen (parse bytes (objectEnd v) rest₂) (λ d rest₃. found (ofList os, d) rest₃))
     from-members =
-        let r : Turned byteFields file at (kindOf Kind.MemberCount) (Turn.Value members) = rw is at turned in
+        let r : Turned byteFields file at memberCount (Turn.Value members) = rw is at turned in
         parts ∙ ap (λ o. andThen o (λ n rest.
         andThen (parse bytes (repeat n (object v deep)) rest) (λ os rest₂. andThen (parse bytes (objectEnd v) rest₂) (λ d rest₃. found (ofList os, d) rest₃)))) (r .reads)
 

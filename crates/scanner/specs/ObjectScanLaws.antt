@@ -25,10 +25,8 @@ use Rattle.drawing.specs.LeafLayout.{pathCase, otherCases, isLeaf, leafBody}
 use Rattle.drawing.specs.ObjectLayout.{object, groupBody}
 use Rattle.drawing.specs.Table.{wordsOf, rows, rowsAll, bodies}
 use Rattle.laws.specs.CodecLaws.{bytes-sensible, bytes-literal}
-use Rattle.fields.specs.declared.Kind.the-variants as Kind
 use Rattle.fields.specs.declared.turn.Turn.{Turn}
 use Rattle.fields.specs.declared.turn.Turn.the-variants as Turn
-use Rattle.fields.specs.Kinds.{kindOf}
 use Rattle.fields.specs.Turn.{Turned}
 use Rattle.scanner.specs.declared.Scan.{Scan}
 use Rattle.scanner.specs.declared.Scan.the-variants as Scan
@@ -101,10 +99,10 @@ same-leaf : (v c total rs ws : ℕ) (o : Outcome (Leaf × String)) → ((l : Lea
 same-leaf v c total rs ws (found (l, d) rest) tells = ap (λ letter. Scan.Done (total - length rest) (rs + 1) (ws + length (wordsOf (leafBody v letter) (l, d)))) (sym (tells l d rest refl))
 same-leaf v c total rs ws (refused n place) tells = refl
 
-module _ (file : List ℕ) (known : (i : ℕ) → Fits w8 (getD file i 0)) (v deep at rs ws : ℕ) (placed : Placed (length file) at rs ws) (t : Turn) (turned : Turned byteFields file at (kindOf (Kind.ObjectId (ltb 0 deep))) t) where
+module _ (file : List ℕ) (known : (i : ℕ) → Fits w8 (getD file i 0)) (v deep at rs ws : ℕ) (placed : Placed (length file) at rs ws) (t : Turn) (turned : Turned byteFields file at (objectId (isLeaf 0) (ltb 0 deep)) t) where
   pub scan-object-fault : (n : ℕ) → t ≡ Turn.Fault n → ScannedObject file v deep at rs ws (Scan.Refused n at)
   scan-object-fault n is =
-      let r : Turned byteFields file at (kindOf (Kind.ObjectId (ltb 0 deep))) (Turn.Fault n) = rw is at turned in
+      let r : Turned byteFields file at (objectId (isLeaf 0) (ltb 0 deep)) (Turn.Fault n) = rw is at turned in
       record {
         says =
             ap (λ m. Scan.Refused n m) (sym (place-of file at (placed .inside)))
@@ -115,7 +113,7 @@ module _ (file : List ℕ) (known : (i : ℕ) → Fits w8 (getD file i 0)) (v de
   -- The next place is in the file.
   pub scan-object-id : (c : ℕ) → t ≡ Turn.Value c → Placed (length file) (at + 2) (rs + 1) ws × Within (length file) (at + 2) ws
   scan-object-id c is =
-      let r : Turned byteFields file at (kindOf (Kind.ObjectId (ltb 0 deep))) (Turn.Value c) = rw is at turned in
+      let r : Turned byteFields file at (objectId (isLeaf 0) (ltb 0 deep)) (Turn.Value c) = rw is at turned in
       let inside : at + 2 ≤ length file = r .beside .inside in (
         record { short = placed .short; inside = inside; few-rows = omega (arith, placed .few-rows); few-words = omega (arith, placed .few-words) },
         record { short = placed .short; inside = inside; few = omega (arith, placed .few-words) },
@@ -123,12 +121,12 @@ module _ (file : List ℕ) (known : (i : ℕ) → Fits w8 (getD file i 0)) (v de
 
   pub scan-object-deeper : t ≡ Turn.Value (code "G") → 0 < deep
   scan-object-deeper is =
-      let r : Turned byteFields file at (kindOf (Kind.ObjectId (ltb 0 deep))) (Turn.Value (code "G")) = rw is at turned in
+      let r : Turned byteFields file at (objectId (isLeaf 0) (ltb 0 deep)) (Turn.Value (code "G")) = rw is at turned in
       ltb-true 0 deep (group-id v (ltb 0 deep) (r .beside .allowed))
 
   pub scan-object-leaf : (c : ℕ) → t ≡ Turn.Value c → (c ≡ code "G" → ⊥) → (r : Scan) → ScannedBody (leafBody v c) file (at + 2) (rs + 1) ws r → ScannedObject file v deep at rs ws r
   scan-object-leaf c is other r s =
-      let id : Turned byteFields file at (kindOf (Kind.ObjectId (ltb 0 deep))) (Turn.Value c) = rw is at turned in
+      let id : Turned byteFields file at (objectId (isLeaf 0) (ltb 0 deep)) (Turn.Value c) = rw is at turned in
       let leafy : isLeaf v c ≡ true = leaf-id v c (ltb 0 deep) (id .beside .allowed) other in
       let below : Below 256 (drop (at + 2) file) = below-drop 256 (at + 2) file (known-below w8 file known) in
       record {
@@ -141,7 +139,7 @@ module _ (file : List ℕ) (known : (i : ℕ) → Fits w8 (getD file i 0)) (v de
 
   pub scan-object-group : t ≡ Turn.Value (code "G") → (r : Scan) → ScannedGroup file v (deep - 1) (at + 2) (rs + 1) ws r → ScannedObject file v deep at rs ws r
   scan-object-group is r s =
-      let id : Turned byteFields file at (kindOf (Kind.ObjectId (ltb 0 deep))) (Turn.Value (code "G")) = rw is at turned in
+      let id : Turned byteFields file at (objectId (isLeaf 0) (ltb 0 deep)) (Turn.Value (code "G")) = rw is at turned in
       by deep (id .reads) (scan-object-deeper is) s
     where
       by : (n : ℕ) → bytes .read (idKind v n) (drop at file) ≡ found (code "G") (drop (at + 2) file) → 0 < n → ScannedGroup file v (n - 1) (at + 2) (rs + 1) ws r → ScannedObject file v n at rs ws r

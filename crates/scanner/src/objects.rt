@@ -2,9 +2,9 @@
 use crate::Scan;
 use crate::body::scan_end;
 use crate::body::scan_leaf;
-use fields::Kind;
 use fields::turn::Turn;
-use fields::turn::turn_at;
+use fields::turn::member_count_at;
+use fields::turn::object_id_at;
 ghost use Prim.Native.Nat.{_+_};
 ghost use lib.ListN.{length};
 ghost use Rattle.scanner.specs.ObjectScans.{Placed, ScannedObject, ScannedMembers, ScannedGroup};
@@ -21,7 +21,7 @@ pub fn scan_object(
     requires { ⌜ Placed (length (now file)) at rows words ⌝ }
     ensures { λ r. ⌜ ScannedObject (now (file .entry)) version deep at rows words r ⌝ }
 {
-    let id = turn_at(file, at, Kind::ObjectId { deeper: 0 < deep });
+    let id = object_id_at(file, at, 0 < deep);
     match id {
         Turn::Fault(number) => Scan::Refused {
             number: number,
@@ -48,7 +48,7 @@ pub fn scan_group(
     requires { ⌜ Placed (length (now file)) at rows words ⌝ }
     ensures { λ r. ⌜ ScannedGroup (now (file .entry)) version deep at rows words r ⌝ }
 {
-    let count = turn_at(file, at, Kind::MemberCount);
+    let count = member_count_at(file, at);
     match count {
         Turn::Fault(number) => Scan::Refused {
             number: number,

@@ -1,3 +1,4 @@
+-- What storing comes to, by what the file parses to.
 pub mod Bodies
 pub mod BodyLaws
 pub mod Rows

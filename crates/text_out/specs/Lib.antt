@@ -1,1 +1,2 @@
+-- The output buffer.
 pub mod Buffer

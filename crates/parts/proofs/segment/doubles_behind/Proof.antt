@@ -1,3 +1,4 @@
+-- `parts::segment::doubles_behind` meets its contract.
 use borrow.Author.Tests.{eq-eqb, ne-eqb}
 use native.Mathlib.Omega.{arith}
 use Rattle.parts.proofs.segment.doubles_behind.Statement.{statement}

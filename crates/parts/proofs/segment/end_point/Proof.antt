@@ -1,3 +1,4 @@
+-- `parts::segment::end_point` meets its contract.
 use native.Mathlib.Omega.{arith}
 use mathlib.Core.Path.{refl}
 use borrow.Author.Needs.{needs}

@@ -1,3 +1,4 @@
+-- `parts::segment::follows` meets its contract.
 use Rattle.passes.specs.Routes.{baseOf, widthOf}
 use Rattle.passes.specs.TakeLaws.{width-bounds}
 use borrow.Author.Tests.{eqb-true}

@@ -1,3 +1,4 @@
+-- `parts::segment::joined_segment` meets its contract.
 use Rattle.parts.specs.SegmentLaws.{two-doubles, ends-there, segment-follows, segment-joined}
 use native.Mathlib.Omega.{arith}
 use mathlib.Core.Path.{_∙_}

@@ -1,3 +1,4 @@
+-- `parts::segment::joined_start` meets its contract.
 use Rattle.passes.specs.LayoutLaws.{laid, both, cased, field-laid}
 use borrow.Author.Needs.{needs}
 use Rattle.parts.proofs.segment.joined_start.Statement.{statement}

@@ -1,3 +1,4 @@
+-- `parts::segment::segment` meets its contract.
 use Rattle.parts.specs.SegmentLaws.{segment-laid}
 use borrow.Author.Needs.{needs}
 use Rattle.parts.proofs.segment.segment.Statement.{statement}

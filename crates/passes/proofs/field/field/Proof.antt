@@ -83,12 +83,12 @@ width-requires-2 : tie.Need-width-requires-2
 width-requires-2 c κs = let s = field-size (c .before .before .before .before .before .before .before .before .before .before .before .before .before .before .before .before .before .before .args .size) (c .before .before .before .before .before .before .before .before .before .before .before .before .before .before .before .before .before .before .pre .1 .0) in omega (arith, s .1)
 
 -- src/field.rt:91:17
-add-t21 : tie.Need-add-t21
-add-t21 c = search needs
+add-t22 : tie.Need-add-t22
+add-t22 c = search needs
 
 -- src/field.rt:92:17
-add-t22 : tie.Need-add-t22
-add-t22 c = let s = field-size (c .before .before .before .before .before .before .before .before .before .before .before .before .before .before .before .before .before .before .before .args .size) (c .before .before .before .before .before .before .before .before .before .before .before .before .before .before .before .before .before .before .before .pre .1 .0) in let u = width-bounds (not (c .before .before .before .before .before .before .before .before .before .before .before .before .before .before .before .before .before .before .before .args .reverse)) (c .before .before .before .before .before .before .before .before .before .before .before .before .before .before .before .before .before .before .before .args .size) (s .0) (omega (arith, s .1)) in omega (arith, u .1, c .width2 .ensures, c .before .before .before .before .before .before .before .before .before .before .before .before .before .before .before .before .before .before .before .pre .0 .few, c .before .before .before .before .before .before .before .before .before .before .before .before .before .before .before .before .before .before .before .pre .0 .inside, c .before .before .before .before .before .before .before .before .before .before .before .before .before .before .before .before .before .before .before .pre .0 .short)
+add-t23 : tie.Need-add-t23
+add-t23 c = let s = field-size (c .before .before .before .before .before .before .before .before .before .before .before .before .before .before .before .before .before .before .before .args .size) (c .before .before .before .before .before .before .before .before .before .before .before .before .before .before .before .before .before .before .before .pre .1 .0) in let u = width-bounds (not (c .before .before .before .before .before .before .before .before .before .before .before .before .before .before .before .before .before .before .before .args .reverse)) (c .before .before .before .before .before .before .before .before .before .before .before .before .before .before .before .before .before .before .before .args .size) (s .0) (omega (arith, s .1)) in omega (arith, u .1, c .width2 .ensures, c .before .before .before .before .before .before .before .before .before .before .before .before .before .before .before .before .before .before .before .pre .0 .few, c .before .before .before .before .before .before .before .before .before .before .before .before .before .before .before .before .before .before .before .pre .0 .inside, c .before .before .before .before .before .before .before .before .before .before .before .before .before .before .before .before .before .before .before .pre .0 .short)
 
 -- src/field.rt:37:1
 same-length : tie.Need-same-length
@@ -119,8 +119,8 @@ field-spec =
     returns-4
     put-value-requires
     width-requires-2
-    add-t21
     add-t22
+    add-t23
     same-length
     same-length-2
     returns-5)

@@ -1,3 +1,4 @@
+-- `passes::runs::all_chars` meets its contract.
 use Rattle.passes.specs.RunTakeLaws.{above-more}
 use Rattle.passes.specs.Runs.{Above}
 use borrow.Author.Tests.{eqb-true, eqb-false}

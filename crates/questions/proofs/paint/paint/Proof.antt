@@ -1,4 +1,5 @@
 -- `questions::paint::paint` meets its contract.
+use Rattle.questions.specs.PaintQuestion.{paints}
 use Rattle.questions.specs.RowQuestions.{no-table, no-such-row, asked, asked-part}
 use Rattle.drawing.specs.Questions.{paintPart, paintValue}
 use Rattle.format.specs.LeafLaws.{known-below}
@@ -19,11 +20,11 @@ check-requires c κs = search needs
 
 -- src/paint.rt:54:9
 returns : tie.Need-returns
-returns c = record { says = sym (ap paintValue (no-table (c .before .before .check .ensures) (c .before .before .before .before .before .args .row) (λ d o. paintPart (c .before .before .before .before .before .args .which) o) (c .if1 .taken))) }
+returns c = paints (sym (ap paintValue (no-table (c .before .before .check .ensures) (c .before .before .before .before .before .args .row) (λ d o. paintPart (c .before .before .before .before .before .args .which) o) (c .if1 .taken))))
 
 -- src/paint.rt:57:9
 returns-2 : tie.Need-returns-2
-returns-2 c = record { says = sym (ap paintValue (no-such-row (c .before .before .before .before .check .ensures) (c .before .before .before .before .before .before .before .args .row) (c .before .before .if1 .left) (λ d o. paintPart (c .before .before .before .before .before .before .before .args .which) o) (c .if2 .taken))) }
+returns-2 c = paints (sym (ap paintValue (no-such-row (c .before .before .before .before .check .ensures) (c .before .before .before .before .before .before .before .args .row) (c .before .before .if1 .left) (λ d o. paintPart (c .before .before .before .before .before .before .before .args .which) o) (c .if2 .taken))))
 
 -- src/paint.rt:59:19
 shared-slice-read-version : tie.Need-shared-slice-read-version
@@ -36,7 +37,7 @@ paint-of-requires c κs = (asked (c .before .before .before .before .before .che
 -- src/paint.rt:49:1
 returns-3 : tie.Need-returns-3
 returns-3 c = let it = (asked (c .before .before .before .before .before .before .check .ensures) (c .before .before .before .before .before .before .before .before .before .args .row) (c .before .before .before .before .if1 .left) (known-below w32 (c .before .before .before .before .before .before .before .before .before .args .words .now) (c .before .before .before .before .before .before .before .shared-slice-known2 .given)) (omega (arith, c .before .before .if2 .left))) in
-    record { says = c .paint-of .ensures (it .object) (it .body) ∙ sym (ap paintValue (asked-part (λ d o. paintPart (c .before .before .before .before .before .before .before .before .before .args .which) o) it)) }
+    paints (c .paint-of .ensures (it .object) (it .body) ∙ sym (ap paintValue (asked-part (λ d o. paintPart (c .before .before .before .before .before .before .before .before .before .args .which) o) it)))
 
 pub paint-spec : {M : Type 1} → statement M
 paint-spec =

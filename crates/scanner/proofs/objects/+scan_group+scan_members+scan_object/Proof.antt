@@ -17,7 +17,8 @@ use Rattle.scanner.proofs.objects.+scan_group+scan_members+scan_object.
 use Rattle.scanner.proofs.objects.scan_object.Reads as scan-object
 use Rattle.scanner.proofs.objects.scan_object.Kinds as scan-object-kinds
 use Rattle.scanner.proofs.objects.+scan_group+scan_members+scan_object.Lts-scan_object as scan-object-lts
-use Rattle.fields.proofs.turn.turn_at.Reads as turn-at-reads
+use Rattle.fields.proofs.turn.member_count_at.Reads as member-count-at-reads
+use Rattle.fields.proofs.turn.object_id_at.Reads as object-id-at-reads
 use Rattle.scanner.proofs.body.scan_end.Reads as scan-end-reads
 use Rattle.scanner.proofs.body.scan_leaf.Reads as scan-leaf-reads
 use Rattle.scanner.proofs.objects.+scan_group+scan_members+scan_object.{statement}
@@ -71,8 +72,8 @@ scan-members-μ-loop file version deep members from above before left₀ at₀ r
 pub +scan-group+scan-members+scan-object-spec : {M : Type 1} → statement M
 +scan-group+scan-members+scan-object-spec =
     close μ-scan-group μ-scan-members μ-scan-object (λ t. scan-group-lts.spec (
-      turn-at-reads.Asked,
-      turn-at-reads.Learnt,
+      member-count-at-reads.Asked,
+      member-count-at-reads.Learnt,
       scan-members-below t,
       scan-members.Post,
       scan-end-reads.Asked,
@@ -83,15 +84,15 @@ pub +scan-group+scan-members+scan-object-spec : {M : Type 1} → statement M
     (λ c κs. c .before .pre .1 .inside)
     (λ c. search needs)
     (λ c. search needs)
-    (λ c. let p = group-members (c .before .before .before .before .before .args .file .now) (c .before .before .before .before .shared-slice-known .given) (c .before .before .before .before .before .args .version) (c .before .before .before .before .before .args .deep) (c .before .before .before .before .before .args .at) (c .before .before .before .before .before .args .rows) (c .before .before .before .before .before .args .words) (c .before .before .before .before .before .pre .1) (c .before .before .before .turn-at .result) (c .before .before .before .turn-at .ensures) (c .before .count2 .given .0 .0) (c .before .count2 .given .1) in omega (arith, p .inside, p .few-words, p .short))
-    (λ c. let p = group-members (c .before .before .before .before .before .args .file .now) (c .before .before .before .before .shared-slice-known .given) (c .before .before .before .before .before .args .version) (c .before .before .before .before .before .args .deep) (c .before .before .before .before .before .args .at) (c .before .before .before .before .before .args .rows) (c .before .before .before .before .before .args .words) (c .before .before .before .before .before .pre .1) (c .before .before .before .turn-at .result) (c .before .before .before .turn-at .ensures) (c .before .count2 .given .0 .0) (c .before .count2 .given .1) in omega (arith, p .inside, p .few-words, p .short))
-    (λ c κs. (omega (arith, c .before .before .before .before .before .pre .0), group-members (c .before .before .before .before .before .args .file .now) (c .before .before .before .before .shared-slice-known .given) (c .before .before .before .before .before .args .version) (c .before .before .before .before .before .args .deep) (c .before .before .before .before .before .args .at) (c .before .before .before .before .before .args .rows) (c .before .before .before .before .before .args .words) (c .before .before .before .before .before .pre .1) (c .before .before .before .turn-at .result) (c .before .before .before .turn-at .ensures) (c .before .count2 .given .0 .0) (c .before .count2 .given .1)))
+    (λ c. let p = group-members (c .before .before .before .before .before .args .file .now) (c .before .before .before .before .shared-slice-known .given) (c .before .before .before .before .before .args .version) (c .before .before .before .before .before .args .deep) (c .before .before .before .before .before .args .at) (c .before .before .before .before .before .args .rows) (c .before .before .before .before .before .args .words) (c .before .before .before .before .before .pre .1) (c .before .before .before .member-count-at .result) (c .before .before .before .member-count-at .ensures) (c .before .count2 .given .0 .0) (c .before .count2 .given .1) in omega (arith, p .inside, p .few-words, p .short))
+    (λ c. let p = group-members (c .before .before .before .before .before .args .file .now) (c .before .before .before .before .shared-slice-known .given) (c .before .before .before .before .before .args .version) (c .before .before .before .before .before .args .deep) (c .before .before .before .before .before .args .at) (c .before .before .before .before .before .args .rows) (c .before .before .before .before .before .args .words) (c .before .before .before .before .before .pre .1) (c .before .before .before .member-count-at .result) (c .before .before .before .member-count-at .ensures) (c .before .count2 .given .0 .0) (c .before .count2 .given .1) in omega (arith, p .inside, p .few-words, p .short))
+    (λ c κs. (omega (arith, c .before .before .before .before .before .pre .0), group-members (c .before .before .before .before .before .args .file .now) (c .before .before .before .before .shared-slice-known .given) (c .before .before .before .before .before .args .version) (c .before .before .before .before .before .args .deep) (c .before .before .before .before .before .args .at) (c .before .before .before .before .before .args .rows) (c .before .before .before .before .before .args .words) (c .before .before .before .before .before .pre .1) (c .before .before .before .member-count-at .result) (c .before .before .before .member-count-at .ensures) (c .before .count2 .given .0 .0) (c .before .count2 .given .1)))
     (λ c. search needs)
     (λ c. search needs)
-    (λ c κs. let p = group-tail (c .before .before .before .before .before .before .before .before .before .args .file .now) (c .before .before .before .before .before .before .before .before .shared-slice-known .given) (c .before .before .before .before .before .before .before .before .before .args .version) (c .before .before .before .before .before .before .before .before .before .args .deep) (c .before .before .before .before .before .before .before .before .before .args .at) (c .before .before .before .before .before .before .before .before .before .args .rows) (c .before .before .before .before .before .before .before .before .before .args .words) (c .before .before .before .before .before .before .before .before .before .pre .1) (c .before .before .before .before .before .before .before .turn-at .result) (c .before .before .before .before .before .before .before .turn-at .ensures) (c .before .before .before .before .before .count2 .given .0 .0) (c .before .before .before .before .before .count2 .given .1) (c .before .before .before .scan-members .result) (c .before .before .before .scan-members .ensures) (c .before .passed2 .given .0 .0) (c .before .passed2 .given .0 .1 .0) (c .before .passed2 .given .0 .1 .1 .0) (c .before .passed2 .given .1) in record { short = p .short; inside = p .inside; few = p .few-words })
-    (λ c. group-fault (c .before .before .before .before .before .args .file .now) (c .before .before .before .before .shared-slice-known .given) (c .before .before .before .before .before .args .version) (c .before .before .before .before .before .args .deep) (c .before .before .before .before .before .args .at) (c .before .before .before .before .before .args .rows) (c .before .before .before .before .before .args .words) (c .before .before .before .before .before .pre .1) (c .before .before .before .turn-at .result) (c .before .before .before .turn-at .ensures) (c .before .count .given .0 .0) (c .before .count .given .1))
-    (λ c. group-stop (c .before .before .before .before .before .before .before .before .before .args .file .now) (c .before .before .before .before .before .before .before .before .shared-slice-known .given) (c .before .before .before .before .before .before .before .before .before .args .version) (c .before .before .before .before .before .before .before .before .before .args .deep) (c .before .before .before .before .before .before .before .before .before .args .at) (c .before .before .before .before .before .before .before .before .before .args .rows) (c .before .before .before .before .before .before .before .before .before .args .words) (c .before .before .before .before .before .before .before .before .before .pre .1) (c .before .before .before .before .before .before .before .turn-at .result) (c .before .before .before .before .before .before .before .turn-at .ensures) (c .before .before .before .before .before .count2 .given .0 .0) (c .before .before .before .before .before .count2 .given .1) (c .before .before .before .scan-members .result) (c .before .before .before .scan-members .ensures) (c .before .passed .given .0 .0) (c .before .passed .given .0 .1 .0) (c .before .passed .given .1))
-    (λ c. group-end (c .before .before .before .before .before .before .before .before .before .before .args .file .now) (c .before .before .before .before .before .before .before .before .before .shared-slice-known .given) (c .before .before .before .before .before .before .before .before .before .before .args .version) (c .before .before .before .before .before .before .before .before .before .before .args .deep) (c .before .before .before .before .before .before .before .before .before .before .args .at) (c .before .before .before .before .before .before .before .before .before .before .args .rows) (c .before .before .before .before .before .before .before .before .before .before .args .words) (c .before .before .before .before .before .before .before .before .before .before .pre .1) (c .before .before .before .before .before .before .before .before .turn-at .result) (c .before .before .before .before .before .before .before .before .turn-at .ensures) (c .before .before .before .before .before .before .count2 .given .0 .0) (c .before .before .before .before .before .before .count2 .given .1) (c .before .before .before .before .scan-members .result) (c .before .before .before .before .scan-members .ensures) (c .before .before .passed2 .given .0 .0) (c .before .before .passed2 .given .0 .1 .0) (c .before .before .passed2 .given .0 .1 .1 .0) (c .before .before .passed2 .given .1) (c .scan-end .result) (c .scan-end .ensures)))
+    (λ c κs. let p = group-tail (c .before .before .before .before .before .before .before .before .before .args .file .now) (c .before .before .before .before .before .before .before .before .shared-slice-known .given) (c .before .before .before .before .before .before .before .before .before .args .version) (c .before .before .before .before .before .before .before .before .before .args .deep) (c .before .before .before .before .before .before .before .before .before .args .at) (c .before .before .before .before .before .before .before .before .before .args .rows) (c .before .before .before .before .before .before .before .before .before .args .words) (c .before .before .before .before .before .before .before .before .before .pre .1) (c .before .before .before .before .before .before .before .member-count-at .result) (c .before .before .before .before .before .before .before .member-count-at .ensures) (c .before .before .before .before .before .count2 .given .0 .0) (c .before .before .before .before .before .count2 .given .1) (c .before .before .before .scan-members .result) (c .before .before .before .scan-members .ensures) (c .before .passed2 .given .0 .0) (c .before .passed2 .given .0 .1 .0) (c .before .passed2 .given .0 .1 .1 .0) (c .before .passed2 .given .1) in record { short = p .short; inside = p .inside; few = p .few-words })
+    (λ c. group-fault (c .before .before .before .before .before .args .file .now) (c .before .before .before .before .shared-slice-known .given) (c .before .before .before .before .before .args .version) (c .before .before .before .before .before .args .deep) (c .before .before .before .before .before .args .at) (c .before .before .before .before .before .args .rows) (c .before .before .before .before .before .args .words) (c .before .before .before .before .before .pre .1) (c .before .before .before .member-count-at .result) (c .before .before .before .member-count-at .ensures) (c .before .count .given .0 .0) (c .before .count .given .1))
+    (λ c. group-stop (c .before .before .before .before .before .before .before .before .before .args .file .now) (c .before .before .before .before .before .before .before .before .shared-slice-known .given) (c .before .before .before .before .before .before .before .before .before .args .version) (c .before .before .before .before .before .before .before .before .before .args .deep) (c .before .before .before .before .before .before .before .before .before .args .at) (c .before .before .before .before .before .before .before .before .before .args .rows) (c .before .before .before .before .before .before .before .before .before .args .words) (c .before .before .before .before .before .before .before .before .before .pre .1) (c .before .before .before .before .before .before .before .member-count-at .result) (c .before .before .before .before .before .before .before .member-count-at .ensures) (c .before .before .before .before .before .count2 .given .0 .0) (c .before .before .before .before .before .count2 .given .1) (c .before .before .before .scan-members .result) (c .before .before .before .scan-members .ensures) (c .before .passed .given .0 .0) (c .before .passed .given .0 .1 .0) (c .before .passed .given .1))
+    (λ c. group-end (c .before .before .before .before .before .before .before .before .before .before .args .file .now) (c .before .before .before .before .before .before .before .before .before .shared-slice-known .given) (c .before .before .before .before .before .before .before .before .before .before .args .version) (c .before .before .before .before .before .before .before .before .before .before .args .deep) (c .before .before .before .before .before .before .before .before .before .before .args .at) (c .before .before .before .before .before .before .before .before .before .before .args .rows) (c .before .before .before .before .before .before .before .before .before .before .args .words) (c .before .before .before .before .before .before .before .before .before .before .pre .1) (c .before .before .before .before .before .before .before .before .member-count-at .result) (c .before .before .before .before .before .before .before .before .member-count-at .ensures) (c .before .before .before .before .before .before .count2 .given .0 .0) (c .before .before .before .before .before .before .count2 .given .1) (c .before .before .before .before .scan-members .result) (c .before .before .before .before .scan-members .ensures) (c .before .before .passed2 .given .0 .0) (c .before .before .passed2 .given .0 .1 .0) (c .before .before .passed2 .given .0 .1 .1 .0) (c .before .before .passed2 .given .1) (c .scan-end .result) (c .scan-end .ensures)))
     (λ t. scan-members-lts.spec
     (scan-object-below t, scan-object.Post)
     (scan-members-at t)
@@ -108,8 +109,8 @@ pub +scan-group+scan-members+scan-object-spec : {M : Type 1} → statement M
     (λ c. members-again (c .before .before .before .before .before .loop .inv) (c .before .before .before .before .before .before .shared-slice-known .given) (c .before .before .before .before .loop-test .taken) (c .before .before .before .scan-object .ensures) (c .before .passed2 .given .1))
     (λ c. members-end (c .before .loop .inv) (λ h. omega (arith, c .loop-test .left))))
     λ t. scan-object-lts.spec (
-      turn-at-reads.Asked,
-      turn-at-reads.Learnt,
+      object-id-at-reads.Asked,
+      object-id-at-reads.Learnt,
       scan-group-below t,
       scan-group.Post,
       scan-leaf-reads.Asked,
@@ -120,13 +121,13 @@ pub +scan-group+scan-members+scan-object-spec : {M : Type 1} → statement M
     (λ c κs. c .before .pre .1 .inside)
     (λ c. search needs)
     (λ c. search needs)
-    (λ c. omega (arith, scan-object-deeper (c .before .before .before .before .before .before .args .file .now) (c .before .before .before .before .before .shared-slice-known .given) (c .before .before .before .before .before .before .args .version) (c .before .before .before .before .before .before .args .deep) (c .before .before .before .before .before .before .args .at) (c .before .before .before .before .before .before .args .rows) (c .before .before .before .before .before .before .args .words) (c .before .before .before .before .before .before .pre .1) (c .before .before .before .before .turn-at .result) (c .before .before .before .before .turn-at .ensures) (c .before .before .id2 .given .1 ∙ ap Turn.Value (c .if1 .taken))))
-    (λ c. let i = scan-object-id (c .before .before .before .before .before .before .args .file .now) (c .before .before .before .before .before .shared-slice-known .given) (c .before .before .before .before .before .before .args .version) (c .before .before .before .before .before .before .args .deep) (c .before .before .before .before .before .before .args .at) (c .before .before .before .before .before .before .args .rows) (c .before .before .before .before .before .before .args .words) (c .before .before .before .before .before .before .pre .1) (c .before .before .before .before .turn-at .result) (c .before .before .before .before .turn-at .ensures) (c .before .before .id2 .given .0 .0) (c .before .before .id2 .given .1) in omega (arith, i .0 .inside, i .0 .few-rows, i .0 .short))
-    (λ c. let i = scan-object-id (c .before .before .before .before .before .before .args .file .now) (c .before .before .before .before .before .shared-slice-known .given) (c .before .before .before .before .before .before .args .version) (c .before .before .before .before .before .before .args .deep) (c .before .before .before .before .before .before .args .at) (c .before .before .before .before .before .before .args .rows) (c .before .before .before .before .before .before .args .words) (c .before .before .before .before .before .before .pre .1) (c .before .before .before .before .turn-at .result) (c .before .before .before .before .turn-at .ensures) (c .before .before .id2 .given .0 .0) (c .before .before .id2 .given .1) in omega (arith, i .0 .inside, i .0 .few-rows, i .0 .short))
-    (λ c κs. (omega (arith, c .before .before .before .before .before .before .pre .0, scan-object-deeper (c .before .before .before .before .before .before .args .file .now) (c .before .before .before .before .before .shared-slice-known .given) (c .before .before .before .before .before .before .args .version) (c .before .before .before .before .before .before .args .deep) (c .before .before .before .before .before .before .args .at) (c .before .before .before .before .before .before .args .rows) (c .before .before .before .before .before .before .args .words) (c .before .before .before .before .before .before .pre .1) (c .before .before .before .before .turn-at .result) (c .before .before .before .before .turn-at .ensures) (c .before .before .id2 .given .1 ∙ ap Turn.Value (c .if1 .taken))), scan-object-id (c .before .before .before .before .before .before .args .file .now) (c .before .before .before .before .before .shared-slice-known .given) (c .before .before .before .before .before .before .args .version) (c .before .before .before .before .before .before .args .deep) (c .before .before .before .before .before .before .args .at) (c .before .before .before .before .before .before .args .rows) (c .before .before .before .before .before .before .args .words) (c .before .before .before .before .before .before .pre .1) (c .before .before .before .before .turn-at .result) (c .before .before .before .before .turn-at .ensures) (c .before .before .id2 .given .0 .0) (c .before .before .id2 .given .1) .0))
-    (λ c. scan-object-group (c .before .before .before .before .before .before .before .args .file .now) (c .before .before .before .before .before .before .shared-slice-known .given) (c .before .before .before .before .before .before .before .args .version) (c .before .before .before .before .before .before .before .args .deep) (c .before .before .before .before .before .before .before .args .at) (c .before .before .before .before .before .before .before .args .rows) (c .before .before .before .before .before .before .before .args .words) (c .before .before .before .before .before .before .before .pre .1) (c .before .before .before .before .before .turn-at .result) (c .before .before .before .before .before .turn-at .ensures) (c .before .before .before .id2 .given .1 ∙ ap Turn.Value (c .before .if1 .taken)) (c .scan-group .result) (c .scan-group .ensures))
-    (λ c. let i = scan-object-id (c .before .before .before .before .before .before .args .file .now) (c .before .before .before .before .before .shared-slice-known .given) (c .before .before .before .before .before .before .args .version) (c .before .before .before .before .before .before .args .deep) (c .before .before .before .before .before .before .args .at) (c .before .before .before .before .before .before .args .rows) (c .before .before .before .before .before .before .args .words) (c .before .before .before .before .before .before .pre .1) (c .before .before .before .before .turn-at .result) (c .before .before .before .before .turn-at .ensures) (c .before .before .id2 .given .0 .0) (c .before .before .id2 .given .1) in omega (arith, i .0 .inside, i .0 .few-rows, i .0 .short))
-    (λ c. let i = scan-object-id (c .before .before .before .before .before .before .args .file .now) (c .before .before .before .before .before .shared-slice-known .given) (c .before .before .before .before .before .before .args .version) (c .before .before .before .before .before .before .args .deep) (c .before .before .before .before .before .before .args .at) (c .before .before .before .before .before .before .args .rows) (c .before .before .before .before .before .before .args .words) (c .before .before .before .before .before .before .pre .1) (c .before .before .before .before .turn-at .result) (c .before .before .before .before .turn-at .ensures) (c .before .before .id2 .given .0 .0) (c .before .before .id2 .given .1) in omega (arith, i .0 .inside, i .0 .few-rows, i .0 .short))
-    (λ c κs. scan-object-id (c .before .before .before .before .before .before .args .file .now) (c .before .before .before .before .before .shared-slice-known .given) (c .before .before .before .before .before .before .args .version) (c .before .before .before .before .before .before .args .deep) (c .before .before .before .before .before .before .args .at) (c .before .before .before .before .before .before .args .rows) (c .before .before .before .before .before .before .args .words) (c .before .before .before .before .before .before .pre .1) (c .before .before .before .before .turn-at .result) (c .before .before .before .before .turn-at .ensures) (c .before .before .id2 .given .0 .0) (c .before .before .id2 .given .1) .1)
-    (λ c. scan-object-fault (c .before .before .before .before .before .args .file .now) (c .before .before .before .before .shared-slice-known .given) (c .before .before .before .before .before .args .version) (c .before .before .before .before .before .args .deep) (c .before .before .before .before .before .args .at) (c .before .before .before .before .before .args .rows) (c .before .before .before .before .before .args .words) (c .before .before .before .before .before .pre .1) (c .before .before .before .turn-at .result) (c .before .before .before .turn-at .ensures) (c .before .id .given .0 .0) (c .before .id .given .1))
-    (λ c. scan-object-leaf (c .before .before .before .before .before .before .before .args .file .now) (c .before .before .before .before .before .before .shared-slice-known .given) (c .before .before .before .before .before .before .before .args .version) (c .before .before .before .before .before .before .before .args .deep) (c .before .before .before .before .before .before .before .args .at) (c .before .before .before .before .before .before .before .args .rows) (c .before .before .before .before .before .before .before .args .words) (c .before .before .before .before .before .before .before .pre .1) (c .before .before .before .before .before .turn-at .result) (c .before .before .before .before .before .turn-at .ensures) (c .before .before .before .id2 .given .0 .0) (c .before .before .before .id2 .given .1) (c .before .if1 .left) (c .scan-leaf .result) (c .scan-leaf .ensures))
+    (λ c. omega (arith, scan-object-deeper (c .before .before .before .before .before .before .args .file .now) (c .before .before .before .before .before .shared-slice-known .given) (c .before .before .before .before .before .before .args .version) (c .before .before .before .before .before .before .args .deep) (c .before .before .before .before .before .before .args .at) (c .before .before .before .before .before .before .args .rows) (c .before .before .before .before .before .before .args .words) (c .before .before .before .before .before .before .pre .1) (c .before .before .before .before .object-id-at .result) (c .before .before .before .before .object-id-at .ensures) (c .before .before .id2 .given .1 ∙ ap Turn.Value (c .if1 .taken))))
+    (λ c. let i = scan-object-id (c .before .before .before .before .before .before .args .file .now) (c .before .before .before .before .before .shared-slice-known .given) (c .before .before .before .before .before .before .args .version) (c .before .before .before .before .before .before .args .deep) (c .before .before .before .before .before .before .args .at) (c .before .before .before .before .before .before .args .rows) (c .before .before .before .before .before .before .args .words) (c .before .before .before .before .before .before .pre .1) (c .before .before .before .before .object-id-at .result) (c .before .before .before .before .object-id-at .ensures) (c .before .before .id2 .given .0 .0) (c .before .before .id2 .given .1) in omega (arith, i .0 .inside, i .0 .few-rows, i .0 .short))
+    (λ c. let i = scan-object-id (c .before .before .before .before .before .before .args .file .now) (c .before .before .before .before .before .shared-slice-known .given) (c .before .before .before .before .before .before .args .version) (c .before .before .before .before .before .before .args .deep) (c .before .before .before .before .before .before .args .at) (c .before .before .before .before .before .before .args .rows) (c .before .before .before .before .before .before .args .words) (c .before .before .before .before .before .before .pre .1) (c .before .before .before .before .object-id-at .result) (c .before .before .before .before .object-id-at .ensures) (c .before .before .id2 .given .0 .0) (c .before .before .id2 .given .1) in omega (arith, i .0 .inside, i .0 .few-rows, i .0 .short))
+    (λ c κs. (omega (arith, c .before .before .before .before .before .before .pre .0, scan-object-deeper (c .before .before .before .before .before .before .args .file .now) (c .before .before .before .before .before .shared-slice-known .given) (c .before .before .before .before .before .before .args .version) (c .before .before .before .before .before .before .args .deep) (c .before .before .before .before .before .before .args .at) (c .before .before .before .before .before .before .args .rows) (c .before .before .before .before .before .before .args .words) (c .before .before .before .before .before .before .pre .1) (c .before .before .before .before .object-id-at .result) (c .before .before .before .before .object-id-at .ensures) (c .before .before .id2 .given .1 ∙ ap Turn.Value (c .if1 .taken))), scan-object-id (c .before .before .before .before .before .before .args .file .now) (c .before .before .before .before .before .shared-slice-known .given) (c .before .before .before .before .before .before .args .version) (c .before .before .before .before .before .before .args .deep) (c .before .before .before .before .before .before .args .at) (c .before .before .before .before .before .before .args .rows) (c .before .before .before .before .before .before .args .words) (c .before .before .before .before .before .before .pre .1) (c .before .before .before .before .object-id-at .result) (c .before .before .before .before .object-id-at .ensures) (c .before .before .id2 .given .0 .0) (c .before .before .id2 .given .1) .0))
+    (λ c. scan-object-group (c .before .before .before .before .before .before .before .args .file .now) (c .before .before .before .before .before .before .shared-slice-known .given) (c .before .before .before .before .before .before .before .args .version) (c .before .before .before .before .before .before .before .args .deep) (c .before .before .before .before .before .before .before .args .at) (c .before .before .before .before .before .before .before .args .rows) (c .before .before .before .before .before .before .before .args .words) (c .before .before .before .before .before .before .before .pre .1) (c .before .before .before .before .before .object-id-at .result) (c .before .before .before .before .before .object-id-at .ensures) (c .before .before .before .id2 .given .1 ∙ ap Turn.Value (c .before .if1 .taken)) (c .scan-group .result) (c .scan-group .ensures))
+    (λ c. let i = scan-object-id (c .before .before .before .before .before .before .args .file .now) (c .before .before .before .before .before .shared-slice-known .given) (c .before .before .before .before .before .before .args .version) (c .before .before .before .before .before .before .args .deep) (c .before .before .before .before .before .before .args .at) (c .before .before .before .before .before .before .args .rows) (c .before .before .before .before .before .before .args .words) (c .before .before .before .before .before .before .pre .1) (c .before .before .before .before .object-id-at .result) (c .before .before .before .before .object-id-at .ensures) (c .before .before .id2 .given .0 .0) (c .before .before .id2 .given .1) in omega (arith, i .0 .inside, i .0 .few-rows, i .0 .short))
+    (λ c. let i = scan-object-id (c .before .before .before .before .before .before .args .file .now) (c .before .before .before .before .before .shared-slice-known .given) (c .before .before .before .before .before .before .args .version) (c .before .before .before .before .before .before .args .deep) (c .before .before .before .before .before .before .args .at) (c .before .before .before .before .before .before .args .rows) (c .before .before .before .before .before .before .args .words) (c .before .before .before .before .before .before .pre .1) (c .before .before .before .before .object-id-at .result) (c .before .before .before .before .object-id-at .ensures) (c .before .before .id2 .given .0 .0) (c .before .before .id2 .given .1) in omega (arith, i .0 .inside, i .0 .few-rows, i .0 .short))
+    (λ c κs. scan-object-id (c .before .before .before .before .before .before .args .file .now) (c .before .before .before .before .before .shared-slice-known .given) (c .before .before .before .before .before .before .args .version) (c .before .before .before .before .before .before .args .deep) (c .before .before .before .before .before .before .args .at) (c .before .before .before .before .before .before .args .rows) (c .before .before .before .before .before .before .args .words) (c .before .before .before .before .before .before .pre .1) (c .before .before .before .before .object-id-at .result) (c .before .before .before .before .object-id-at .ensures) (c .before .before .id2 .given .0 .0) (c .before .before .id2 .given .1) .1)
+    (λ c. scan-object-fault (c .before .before .before .before .before .args .file .now) (c .before .before .before .before .shared-slice-known .given) (c .before .before .before .before .before .args .version) (c .before .before .before .before .before .args .deep) (c .before .before .before .before .before .args .at) (c .before .before .before .before .before .args .rows) (c .before .before .before .before .before .args .words) (c .before .before .before .before .before .pre .1) (c .before .before .before .object-id-at .result) (c .before .before .before .object-id-at .ensures) (c .before .id .given .0 .0) (c .before .id .given .1))
+    (λ c. scan-object-leaf (c .before .before .before .before .before .before .before .args .file .now) (c .before .before .before .before .before .before .shared-slice-known .given) (c .before .before .before .before .before .before .before .args .version) (c .before .before .before .before .before .before .before .args .deep) (c .before .before .before .before .before .before .before .args .at) (c .before .before .before .before .before .before .before .args .rows) (c .before .before .before .before .before .before .before .args .words) (c .before .before .before .before .before .before .before .pre .1) (c .before .before .before .before .before .object-id-at .result) (c .before .before .before .before .before .object-id-at .ensures) (c .before .before .before .id2 .given .0 .0) (c .before .before .before .id2 .given .1) (c .before .if1 .left) (c .scan-leaf .result) (c .scan-leaf .ensures))
