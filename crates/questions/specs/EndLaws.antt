@@ -1,13 +1,13 @@
--- Where a leaf's fields begin and an object's end: behind a group's count, or behind a leaf's other fields.
+-- Where a leaf's fields stand, and an object's end: behind a group's count, or behind a leaf's other fields.
 use mathlib.Core.Path.{_≡_, refl, sym, ap, subst, _∙_}
-use Prim.Native.Nat.{ℕ, _+_}
+use Prim.Native.Nat.{ℕ, _+_, _≤_}
 use native.Mathlib.Omega.{arith}
 use mathlib.Core.List.{List, _++_}
 use lib.ListN.{length, length-append}
-use Rattle.format.specs.Layout.{field}
+use Rattle.format.specs.Layout.{field, _&_}
 use Rattle.format.specs.Alternative.{told}
-use Rattle.drawing.specs.Fields.{memberCount}
-use Rattle.drawing.specs.String.{String}
+use Rattle.drawing.specs.Fields.{flowFlag, memberCount}
+use Rattle.drawing.specs.String.{String, string}
 use Rattle.drawing.specs.Object.{Leaf, path, text, bitmap, Object, leaf, group, Objects, listOf}
 use Rattle.drawing.specs.ObjectId.{leafLetter}
 use Rattle.drawing.specs.LeafLayout.{pathCase, otherCases, leafBody, objectEnd}
@@ -15,10 +15,10 @@ use Rattle.drawing.specs.Table.{wordsOf, leafKind, groupOwn, kindIn, startIn}
 use Rattle.drawing.specs.TableDrawing.{letterOf}
 use Rattle.drawing.specs.Order.{descriptionOf}
 use Rattle.questions.specs.RowBodies.{ownWords, RowBody}
-use Rattle.questions.specs.WordLaws.{pair-words}
+use Rattle.questions.specs.WordLaws.{pair-words, late-end}
 use Rattle.questions.specs.Places.{Here, Behind}
-use Rattle.questions.specs.PlaceLaws.{here-behind, here-first}
-use Rattle.questions.specs.Rows.{EndsAt}
+use Rattle.questions.specs.PlaceLaws.{here-as, here-behind, here-first, here-next, here-later, next-ends}
+use Rattle.questions.specs.Rows.{EndsAt, Describes}
 
 letter-of-leaf : (l : Leaf) → letterOf (leafKind l) ≡ leafLetter l
 letter-of-leaf (path x) = refl
@@ -55,9 +55,9 @@ module _ (c bs : List ℕ) (v r : ℕ) where
 
   pub ends : (o : Object) → RowBody c bs v r o → EndsAt c bs v r o (startIn c r + length (frontWords v o))
   ends (leaf l d) row =
-      record { here = here-behind (body-here l d row) (frontWords v (leaf l d)) (objectEnd v) (front-words v (leaf l d)) (row .good .1); end-is = end-is (leaf l d) }
+      record { here = here-behind (body-here l d row) (frontWords v (leaf l d)) (objectEnd v) (front-words v (leaf l d)) (row .good .1); later = omega arith; end-is = end-is (leaf l d) }
   ends (group os d) row =
-      record { here = here-behind (own-here os d row) (frontWords v (group os d)) (objectEnd v) (front-words v (group os d)) (row .good .1); end-is = end-is (group os d) }
+      record { here = here-behind (own-here os d row) (frontWords v (group os d)) (objectEnd v) (front-words v (group os d)) (row .good .1); later = omega arith; end-is = end-is (group os d) }
 
   pub group-end : (o : Object) → RowBody c bs v r o → kindIn c r ≡ 1 → {q : ℕ} → Behind (field memberCount) bs (startIn c r) q → EndsAt c bs v r o q
   group-end (leaf l d) row is behind = absurd (leaf-no-group l (sym (row .kind-is) ∙ is))
@@ -71,3 +71,19 @@ module _ (c bs : List ℕ) (v r : ℕ) where
       let same : letter ≡ leafLetter l = letter-is ∙ ap letterOf (row .kind-is) ∙ letter-of-leaf l in
       let is = subst (λ x. Behind (told (pathCase v) (otherCases v) x) bs (startIn c r) q) same behind in
       subst (EndsAt c bs v r (leaf l d)) (sym (is l (leaf-here l d row))) (ends (leaf l d) row)
+
+  -- Its description stands behind the flow frame flag.
+  module _ (late : 2 ≤ v) (o : Object) {end : ℕ} (e : EndsAt c bs v r o end) where
+    flag-here : Here (field flowFlag & string 0) bs end (0, descriptionOf o)
+    flag-here = let it = late-end v (descriptionOf o) late (e .here .good) in here-as (e .here) (field flowFlag & string 0) (it .0) (it .1)
+
+    pub described : {at : ℕ} → Behind (field flowFlag) bs end at → Describes c bs v r o at
+    described is =
+        record {
+          here = here-next (field flowFlag) (string 0) flag-here is;
+          later = omega (arith, e .later, here-later (field flowFlag) (string 0) flag-here is);
+          end-is = next-ends (field flowFlag) (string 0) flag-here is ∙ ap (λ k. end + k) (sym (ap length (late-end v (descriptionOf o) late (e .here .good) .0))) ∙ sym (e .end-is);
+        }
+
+  pub some-description : 2 ≤ v → (o : Object) → RowBody c bs v r o → (at : ℕ) × Describes c bs v r o at
+  some-description late o row = (startIn c r + length (frontWords v o) + 1, described late o (ends o row) (λ a here. refl))

@@ -1,23 +1,23 @@
--- Whether a row's object has a label: told by the last words of its body, and by where its end begins.
+-- Whether a row's object has a label: told by the last words of its body, and by where its description stands.
 use mathlib.Core.Path.{_≡_, refl, sym, ap, _∙_}
 use mathlib.Core.Bool.{Bool, true, false, false≢true}
 use Prim.Native.Nat.{ℕ, suc, _+_, _-_, _<_, _≤_}
 use native.Mathlib.Omega.{arith}
 use mathlib.Core.List.{List, [], _∷_, _++_}
 use lib.Dec.{eqb}
-use lib.ListN.{length, take, drop, getD, length-append}
-use lib.Seq.{drop-drop, getD-drop, take-at}
+use lib.ListN.{length, take, drop, getD}
+use lib.Seq.{drop-drop, take-at}
 use borrow.Author.Tests.{ne-eqb, eqb-true, eqb-false}
-use Rattle.drawing.specs.String.{equal}
+use Rattle.drawing.specs.String.{string, equal}
 use Rattle.drawing.specs.Object.{Object, leaf, group}
 use Rattle.drawing.specs.LeafLayout.{objectEnd}
 use Rattle.drawing.specs.Table.{wordsOf, startIn}
 use Rattle.drawing.specs.Order.{descriptionOf}
 use Rattle.laws.specs.EqualLaws.{equal-refl, equal-true}
 use Rattle.questions.specs.RowBodies.{ownWords, RowBody}
-use Rattle.questions.specs.WordLaws.{end-words, end-words-early}
-use Rattle.questions.specs.Rows.{EndsAt}
-use Rattle.questions.specs.EndLaws.{frontWords, front-words}
+use Rattle.questions.specs.WordLaws.{string-words, early-end}
+use Rattle.questions.specs.Rows.{Describes}
+use Rattle.questions.specs.PlaceLaws.{first-word}
 
 equal-not : (xs ys : List ℕ) → (xs ≡ ys → ⊥) → false ≡ equal xs ys
 equal-not xs ys other = by (equal xs ys) refl
@@ -34,44 +34,39 @@ end-good c bs v r (group os d) row = row .good .1
 module _ (c bs : List ℕ) (v r : ℕ) (label : List ℕ) where
   -- Below 1.2 every description is empty.
   pub label-early : v < 2 → (o : Object) → RowBody c bs v r o → eqb (length label) 0 ≡ equal (descriptionOf o) label
-  label-early early o row = by label ∙ ap (λ d. equal d label) (sym (end-words-early v (descriptionOf o) early (end-good c bs v r o row) .1))
+  label-early early o row = by label ∙ ap (λ d. equal d label) (sym (early-end v (descriptionOf o) early (end-good c bs v r o row)))
     where
       by : (l : List ℕ) → eqb (length l) 0 ≡ equal [] l
       by [] = refl
       by (x ∷ xs) = ne-eqb (suc (length xs)) 0 (λ e. omega (arith, e))
 
-  -- From 1.2 on the end is the flag, the number of chars, and the chars.
-  module _ (late : 2 ≤ v) (o : Object) (row : RowBody c bs v r o) where
-    words-are : wordsOf (objectEnd v) (descriptionOf o) ≡ 0 ∷ length (descriptionOf o) ∷ descriptionOf o
-    words-are = end-words v (descriptionOf o) late (end-good c bs v r o row)
+  -- The words of a description that stands here are the number of its chars, and the chars.
+  module _ (o : Object) {at : ℕ} (e : Describes c bs v r o at) where
+    words-are : wordsOf (string 0) (descriptionOf o) ≡ length (descriptionOf o) ∷ descriptionOf o
+    words-are = string-words 0 (descriptionOf o) (e .here .good)
 
-    size : length (wordsOf (objectEnd v) (descriptionOf o)) ≡ 2 + length (descriptionOf o)
-    size = ap length words-are ∙ omega arith
+    size : length (wordsOf (string 0) (descriptionOf o)) ≡ suc (length (descriptionOf o))
+    size = ap length words-are
 
-    own-long : length (ownWords v o) ≡ length (frontWords v o) + length (wordsOf (objectEnd v) (descriptionOf o))
-    own-long = ap length (front-words v o) ∙ length-append (frontWords v o) (wordsOf (objectEnd v) (descriptionOf o))
+    pub too-long : length (ownWords v o) ≤ length label → false ≡ equal (descriptionOf o) label
+    too-long long = equal-not (descriptionOf o) label (λ same. omega (arith, e .end-is, e .later, size, long, ap length same))
 
-    pub two-words : 2 ≤ length (ownWords v o)
-    two-words = omega (arith, size, own-long)
-
-    module _ (behind : ℕ) (e : EndsAt c bs v r o behind) (from : ℕ) (from-is : from + length label ≡ startIn c r + length (ownWords v o)) where
-      stands : drop behind bs ≡ (0 ∷ length (descriptionOf o) ∷ descriptionOf o) ++ e .here .rest
-      stands = e .here .stands .words-are ∙ ap (λ l. l ++ e .here .rest) words-are
-
+    module _ (from : ℕ) (from-is : from + length label ≡ startIn c r + length (ownWords v o)) where
       -- Where the label is as long as the description, these are its number and its chars.
-      same-place : length (descriptionOf o) ≡ length label → from ≡ behind + 2
+      same-place : length (descriptionOf o) ≡ length label → from ≡ at + 1
       same-place same = omega (arith, from-is, e .end-is, size, same)
 
       chars-there : length (descriptionOf o) ≡ length label → take (length label) (drop from bs) ≡ descriptionOf o
       chars-there same =
+          let stands = e .here .stands .words-are ∙ ap (λ l. l ++ e .here .rest) words-are in
           ap (λ n. take (length label) (drop n bs)) (same-place same)
-          ∙ ap (take (length label)) (sym (drop-drop 2 behind bs) ∙ ap (drop 2) stands)
+          ∙ ap (take (length label)) (sym (drop-drop 1 at bs) ∙ ap (drop 1) stands)
           ∙ take-at (descriptionOf o) (e .here .rest) (length label) same
 
       number-there : length (descriptionOf o) ≡ length label → getD bs (from - 1) 0 ≡ length label
       number-there same =
-          let one : from - 1 ≡ behind + 1 = omega (arith, same-place same) in
-          ap (λ n. getD bs n 0) one ∙ sym (getD-drop behind bs 1 0) ∙ ap (λ l. getD l 1 0) stands ∙ same
+          let one : from - 1 ≡ at = omega (arith, same-place same) in
+          ap (λ n. getD bs n 0) one ∙ first-word (e .here) words-are .1 ∙ same
 
       pub other-number : (getD bs (from - 1) 0 ≡ length label → ⊥) → false ≡ equal (descriptionOf o) label
       other-number other = equal-not (descriptionOf o) label (λ same. other (number-there (ap length same)))
@@ -81,14 +76,11 @@ module _ (c bs : List ℕ) (v r : ℕ) (label : List ℕ) where
           equal-not (descriptionOf o) label (λ same.
           false≢true (sym other ∙ ap (λ l. equal l label) (chars-there (ap length same) ∙ same) ∙ equal-refl label))
 
-      pub told-by-end : equal (take (length label) (drop from bs)) label ≡ true → eqb (behind + 2) from ≡ equal (descriptionOf o) label
-      told-by-end same-chars = by (eqb (behind + 2) from) refl
+      pub told-by-place : equal (take (length label) (drop from bs)) label ≡ true → eqb (at + 1) from ≡ equal (descriptionOf o) label
+      told-by-place same-chars = by (eqb (at + 1) from) refl
         where
-          by : (t : Bool) → eqb (behind + 2) from ≡ t → eqb (behind + 2) from ≡ equal (descriptionOf o) label
+          by : (t : Bool) → eqb (at + 1) from ≡ t → eqb (at + 1) from ≡ equal (descriptionOf o) label
           by true is =
-              let same : length (descriptionOf o) ≡ length label = omega (arith, eqb-true (behind + 2) from is, from-is, e .end-is, size) in
+              let same : length (descriptionOf o) ≡ length label = omega (arith, eqb-true (at + 1) from is, from-is, e .end-is, size) in
               is ∙ sym (ap (λ l. equal l label) (sym (chars-there same)) ∙ same-chars)
-          by false is = is ∙ equal-not (descriptionOf o) label (λ same. eqb-false (behind + 2) from is (sym (same-place (ap length same))))
-
-    pub too-long : length (ownWords v o) - 2 < length label → false ≡ equal (descriptionOf o) label
-    too-long long = equal-not (descriptionOf o) label (λ same. omega (arith, own-long, size, long, ap length same))
+          by false is = is ∙ equal-not (descriptionOf o) label (λ same. eqb-false (at + 1) from is (sym (same-place (ap length same))))

@@ -22,7 +22,7 @@ use Rattle.laws.specs.EntryLaws.{entries-are, entries-increasing, entries-lengt
 use Rattle.laws.specs.OrderLaws.{leads}
 use Rattle.laws.specs.TableLaws.{drawing-of-table}
 use Rattle.questions.specs.RowBodyLaws.{row-body, version-word}
-use Rattle.questions.specs.WordLaws.{end-words-early}
+use Rattle.questions.specs.WordLaws.{early-end}
 use Rattle.questions.specs.LabelLaws.{end-good}
 use Rattle.questions.specs.Entries.{TableHere, Enters}
 use Rattle.questions.specs.EntryLaws.{rows-small, same-drawing}
@@ -37,7 +37,7 @@ entries-listed c bs label d table =
       exactly = entries-are label d;
       in-order = entries-increasing label d;
       leads = λ row member. subst (λ l. ParentChain l row (getD (groupsAround d) row [])) (sym (table .contents-are)) (leads d row (entries-are label d row .0 member .0));
-      early = λ early row inside. end-words-early (d .version) (descriptionOf (getD (objectsOf d) row (outer d))) early (end-good c bs (d .version) row (getD (objectsOf d) row (outer d)) (row-body c bs d table row inside)) .1;
+      early = λ early row inside. early-end (d .version) (descriptionOf (getD (objectsOf d) row (outer d))) early (end-good c bs (d .version) row (getD (objectsOf d) row (outer d)) (row-body c bs d table row inside));
     }
 
 module _ {c bs : List ℕ} (below : Below (2 ^ 32) bs) {a : Answer} (checks : Checks c bs a) (label : String) (list : List ℕ) where

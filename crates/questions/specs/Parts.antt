@@ -4,7 +4,7 @@ use Prim.Native.Nat.{ℕ}
 use mathlib.Core.List.{List}
 use Rattle.format.specs.Alternative.{told}
 use Rattle.format.specs.Layout.{Layout, field, _&_}
-use Rattle.drawing.specs.Fields.{byteIn, memberCount}
+use Rattle.drawing.specs.Fields.{byteIn, flowFlag, memberCount}
 use Rattle.drawing.specs.String.{String, string}
 use Rattle.drawing.specs.Choices.{ifFlag}
 use Rattle.drawing.specs.Paint as P
@@ -12,12 +12,13 @@ use Rattle.drawing.specs.Text as T
 use Rattle.drawing.specs.Object as O
 use Rattle.drawing.specs.LeafLayout.{pathCase, otherCases}
 use Rattle.questions.specs.declared.Part.{Part}
-use Rattle.questions.specs.declared.Part.the-variants.{Count, Leaf, Paint, PlainPaint, Font, Latex, BeforeAlternative}
+use Rattle.questions.specs.declared.Part.the-variants.{Count, Leaf, FlowFlag, Paint, PlainPaint, Font, Latex, BeforeAlternative}
 
 -- What stands where a part stands.
 abbrev pub ValueOf : Part → Type 0
 ValueOf Count = ℕ
 ValueOf (Leaf letter) = O.Leaf
+ValueOf FlowFlag = ℕ
 ValueOf Paint = P.Paint
 ValueOf PlainPaint = P.Plain
 ValueOf Font = String × (ℕ × (ℕ × (ℕ × List ℕ)))
@@ -28,6 +29,7 @@ ValueOf BeforeAlternative = String × (String × (String × (String × (ℕ × �
 abbrev pub layoutOf : (part : Part) → ℕ → Layout (ValueOf part)
 layoutOf Count v = field memberCount
 layoutOf (Leaf letter) v = told (pathCase v) (otherCases v) letter
+layoutOf FlowFlag v = field flowFlag
 layoutOf Paint v = P.paint v
 layoutOf PlainPaint v = P.plainPaint v
 layoutOf Font v = T.font

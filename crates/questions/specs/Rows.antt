@@ -5,7 +5,7 @@ use Prim.Native.Nat.{ℕ, _+_, _*_, _≤_}
 use mathlib.Core.List.{List}
 use lib.ListN.{length}
 use Rattle.drawing.specs.Limits.{lengthLimit}
-use Rattle.drawing.specs.String.{String, equal}
+use Rattle.drawing.specs.String.{String, string, equal}
 use Rattle.drawing.specs.Object.{Object}
 use Rattle.drawing.specs.LeafLayout.{objectEnd}
 use Rattle.drawing.specs.Table.{wordsOf, rowWidth, startIn}
@@ -23,10 +23,17 @@ pub record HasRow (contents bodies : List ℕ) (v r : ℕ) : Type 0 where
 -- An object's end, the flow frame flag and the description, begins here.
 pub record EndsAt (contents bodies : List ℕ) (v r : ℕ) (o : Object) (behind : ℕ) : Type 0 where
   pub here : Here (objectEnd v) bodies behind (descriptionOf o)
+  pub later : startIn contents r ≤ behind
   pub end-is : startIn contents r + length (ownWords v o) ≡ behind + length (wordsOf (objectEnd v) (descriptionOf o))
 
 abbrev pub EndIs : (contents bodies : List ℕ) → (v r behind : ℕ) → Type 0
 EndIs c bs v r behind = (o : Object) → RowBody c bs v r o → EndsAt c bs v r o behind
+
+-- Its description stands here, and ends its body.
+pub record Describes (contents bodies : List ℕ) (v r : ℕ) (o : Object) (at : ℕ) : Type 0 where
+  pub here : Here (string 0) bodies at (descriptionOf o)
+  pub later : startIn contents r ≤ at
+  pub end-is : at + length (wordsOf (string 0) (descriptionOf o)) ≡ startIn contents r + length (ownWords v o)
 
 -- Whether the object of a row has this description.
 abbrev pub Labels : (contents bodies : List ℕ) → (v r : ℕ) → String → Bool → Type 0

@@ -1,17 +1,17 @@
 -- The words of layouts: of two parts, of a string, and of the end of an object.
-use mathlib.Core.Path.{_≡_, refl, ap, ap₂}
+use mathlib.Core.Path.{_≡_, refl, sym, ap₂}
 use Prim.Native.Nat.{ℕ, zero, suc, _-_, _<_, _≤_}
 use native.Mathlib.Omega.{arith}
 use mathlib.Core.List.{List, [], _∷_, _++_}
 use lib.ListN.{length}
-use mathlib.Core.Bool.{Bool, true, false}
+use mathlib.Core.Bool.{Bool, true, false, true≢false}
 use lib.Dec.{eqb, leb}
 use borrow.Author.Tests.{lt-leb, le-leb}
 use Rattle.format.specs.FixedCodec.{spellFixed}
 use Rattle.format.specs.Format.{fields}
 use Rattle.format.specs.Layout.{Layout, field, when, threaded, _&_}
 use Rattle.drawing.specs.Codecs.{wordFields}
-use Rattle.drawing.specs.Fields.{stringChar}
+use Rattle.drawing.specs.Fields.{stringChar, flowFlag}
 use Rattle.drawing.specs.String.{String, string}
 use Rattle.drawing.specs.LeafLayout.{objectEnd}
 use Rattle.drawing.specs.Table.{wordsOf}
@@ -37,18 +37,18 @@ chars-words (suc n) left (c ∷ s) g =
 pub string-words : (least : ℕ) (s : String) → string least .Good s → wordsOf (string least) s ≡ length s ∷ s
 string-words least s g = ap₂ {C = List ℕ} (λ w ws. w ∷ ws) (one-word (length s) (g .0 .fits)) (chars-words (length s) (length s) s (g .1))
 
--- Below 1.2 only the flow frame flag ends an object, and there is no description.
-pub end-words-early : (v : ℕ) (d : String) → v < 2 → objectEnd v .Good d → (wordsOf (objectEnd v) d ≡ 0 ∷ []) × (d ≡ [])
-end-words-early v d h g = by (leb 2 v) (lt-leb 2 v h) (g .1)
+-- Below 1.2 there is no description.
+pub early-end : (v : ℕ) (d : String) → v < 2 → objectEnd v .Good d → d ≡ []
+early-end v d h g = by (leb 2 v) (lt-leb 2 v h) (g .1)
   where
-    by : (t : Bool) → t ≡ false → when t (string 0) [] .Good d → (0 ∷ wordsOf (when t (string 0) []) d ≡ 0 ∷ []) × (d ≡ [])
-    by true e g = let z : _≡_ {A = Bool} true false = e in (cc, cc)
-    by false e g = (refl, g)
+    by : (t : Bool) → t ≡ false → when t (string 0) [] .Good d → d ≡ []
+    by true e x = absurd (true≢false e)
+    by false e x = x
 
--- From 1.2 on the flag and the description.
-pub end-words : (v : ℕ) (d : String) → 2 ≤ v → objectEnd v .Good d → wordsOf (objectEnd v) d ≡ 0 ∷ length d ∷ d
-end-words v d h g = by (leb 2 v) (le-leb 2 v h) (g .1)
+-- From 1.2 on an object's end is the flow frame flag and the description.
+pub late-end : (v : ℕ) (d : String) → 2 ≤ v → objectEnd v .Good d → (wordsOf (objectEnd v) d ≡ wordsOf (field flowFlag & string 0) (0, d)) × (field flowFlag & string 0) .Good (0, d)
+late-end v d h g = by (leb 2 v) (le-leb 2 v h) (g .1)
   where
-    by : (t : Bool) → t ≡ true → when t (string 0) [] .Good d → 0 ∷ wordsOf (when t (string 0) []) d ≡ 0 ∷ length d ∷ d
-    by true e g = ap {B = List ℕ} (λ ws. 0 ∷ ws) (string-words 0 d g)
-    by false e g = let z : _≡_ {A = Bool} false true = e in cc
+    by : (t : Bool) → t ≡ true → when t (string 0) [] .Good d → (0 ∷ wordsOf (when t (string 0) []) d ≡ 0 ∷ wordsOf (string 0) d) × (field flowFlag & string 0) .Good (0, d)
+    by true e x = (refl, (g .0, x))
+    by false e x = absurd (true≢false (sym e))

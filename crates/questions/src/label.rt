@@ -1,4 +1,6 @@
 // Whether a row's object has a label for its description.
+use crate::Part;
+use crate::places::behind;
 use crate::rows::end_of;
 ghost use mathlib.Core.Path.{_≡_};
 ghost use Prim.Native.Nat.{_+_, _≤_};
@@ -20,8 +22,8 @@ fn same_chars(words: &[u32], from: usize, label: &[u16]) -> bool
     true
 }
 
-// The description's chars are the last words of the body, and before them stands their number; so most rows are told by a word or two, and the fields
-// of a row are passed only where all of that fits.
+// The description's chars are the last words of the body, and before them stands their number; so most rows are told by a word or two, and the parts
+// before the description are passed only where all of that fits.
 pub fn is_labelled(contents: &[u32], words: &[u32], row: usize, version: u32, label: &[u16]) -> bool
     requires { ⌜ HasRow (now contents) (now words) version row ⌝ }
     ensures { λ r. ⌜ Labels (now (contents .entry)) (now (words .entry)) version row (now (label .entry)) r ⌝ }
@@ -32,10 +34,7 @@ pub fn is_labelled(contents: &[u32], words: &[u32], row: usize, version: u32, la
     }
     let start = contents[4 * row + 2] as usize;
     let size = contents[4 * row + 3] as usize;
-    if size < 2 {
-        return false;
-    }
-    if size - 2 < chars {
+    if size <= chars {
         return false;
     }
     let from = start + size - chars;
@@ -43,7 +42,9 @@ pub fn is_labelled(contents: &[u32], words: &[u32], row: usize, version: u32, la
         return false;
     }
     if same_chars(words, from, label) {
-        return end_of(contents, words, row, version) + 2 == from;
+        let end = end_of(contents, words, row, version);
+        let description = behind(words, end, version, Part::FlowFlag);
+        return description + 1 == from;
     }
     false
 }

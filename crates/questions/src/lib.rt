@@ -15,6 +15,8 @@ pub enum Part {
     Count,
     // the fields of the leaf of this letter, before its end
     Leaf(u64),
+    // the flow frame flag that begins an object's end
+    FlowFlag,
     Paint,
     PlainPaint,
     // a text's fields before its LaTeX fields

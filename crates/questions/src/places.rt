@@ -1,6 +1,7 @@
 // The places of the parts of a body: each stands behind others, which are passed as the check passes them.
 use crate::Part;
 use kinds::numbers::count;
+use kinds::numbers::flow_flag;
 use parts::object::leaf_parts;
 use parts::paint::paint;
 use parts::paint::plain_paint;
@@ -34,6 +35,10 @@ fn pass(
             counted.pass
         }
         Part::Leaf(letter) => leaf_parts(file, words, bodies, out, reverse, p, version, letter),
+        Part::FlowFlag => {
+            let flow = flow_flag(file, words, bodies, out, reverse, p);
+            flow.pass
+        }
         Part::Paint => paint(file, words, bodies, out, reverse, p, version),
         Part::PlainPaint => plain_paint(file, words, bodies, out, reverse, p, version),
         Part::Font => font(file, words, bodies, out, reverse, p),

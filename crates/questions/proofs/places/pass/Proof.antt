@@ -7,6 +7,7 @@ use Rattle.questions.proofs.places.pass.Tie as tie
 use Rattle.questions.proofs.places.pass.Reads as reads
 use Rattle.questions.proofs.places.pass.Lts as lts
 use Rattle.kinds.proofs.numbers.count.Reads as count-reads
+use Rattle.kinds.proofs.numbers.flow_flag.Reads as flow-flag-reads
 use Rattle.parts.proofs.object.leaf_parts.Reads as leaf-parts-reads
 use Rattle.parts.proofs.paint.paint.Reads as paint-reads
 use Rattle.parts.proofs.paint.plain_paint.Reads as plain-paint-reads
@@ -14,145 +15,165 @@ use Rattle.parts.proofs.text.before_alternative.Reads as before-alternative-rea
 use Rattle.parts.proofs.text.font.Reads as font-reads
 use Rattle.parts.proofs.text.latex_if.Reads as latex-if-reads
 
--- src/places.rt:33:46
+-- src/places.rt:34:46
 enum-told : tie.Need-enum-told
 enum-told c = search needs
 
--- src/places.rt:33:17
+-- src/places.rt:34:17
 count-requires : tie.Need-count-requires
 count-requires c κs = search needs
 
--- src/places.rt:36:20
+-- src/places.rt:37:20
 enum-known-part : tie.Need-enum-known-part
 enum-known-part c = search needs
 
--- src/places.rt:36:31
+-- src/places.rt:37:31
 leaf-parts-requires : tie.Need-leaf-parts-requires
 leaf-parts-requires c κs = search needs
 
--- src/places.rt:37:43
+-- src/places.rt:39:47
 enum-told-2 : tie.Need-enum-told-2
 enum-told-2 c = search needs
 
--- src/places.rt:37:24
-paint-requires : tie.Need-paint-requires
-paint-requires c κs = search needs
+-- src/places.rt:39:17
+flow-flag-requires : tie.Need-flow-flag-requires
+flow-flag-requires c κs = search needs
 
--- src/places.rt:38:54
+-- src/places.rt:42:43
 enum-told-3 : tie.Need-enum-told-3
 enum-told-3 c = search needs
 
--- src/places.rt:38:29
-plain-paint-requires : tie.Need-plain-paint-requires
-plain-paint-requires c κs = search needs
+-- src/places.rt:42:24
+paint-requires : tie.Need-paint-requires
+paint-requires c κs = search needs
 
--- src/places.rt:39:41
+-- src/places.rt:43:54
 enum-told-4 : tie.Need-enum-told-4
 enum-told-4 c = search needs
 
--- src/places.rt:39:23
-font-requires : tie.Need-font-requires
-font-requires c κs = search needs
+-- src/places.rt:43:29
+plain-paint-requires : tie.Need-plain-paint-requires
+plain-paint-requires c κs = search needs
 
--- src/places.rt:40:46
+-- src/places.rt:44:41
 enum-told-5 : tie.Need-enum-told-5
 enum-told-5 c = search needs
 
--- src/places.rt:40:24
-latex-if-requires : tie.Need-latex-if-requires
-latex-if-requires c κs = search needs
+-- src/places.rt:44:23
+font-requires : tie.Need-font-requires
+font-requires c κs = search needs
 
--- src/places.rt:41:68
+-- src/places.rt:45:46
 enum-told-6 : tie.Need-enum-told-6
 enum-told-6 c = search needs
 
--- src/places.rt:41:36
+-- src/places.rt:45:24
+latex-if-requires : tie.Need-latex-if-requires
+latex-if-requires c κs = search needs
+
+-- src/places.rt:46:68
+enum-told-7 : tie.Need-enum-told-7
+enum-told-7 c = search needs
+
+-- src/places.rt:46:36
 before-alternative-requires : tie.Need-before-alternative-requires
 before-alternative-requires c κs = search needs
 
--- src/places.rt:18:1
+-- src/places.rt:19:1
 same-length : tie.Need-same-length
 same-length c = search needs
 
--- src/places.rt:18:1
+-- src/places.rt:19:1
 same-length-2 : tie.Need-same-length-2
 same-length-2 c = search needs
 
--- src/places.rt:18:1
+-- src/places.rt:19:1
 returns : tie.Need-returns
 returns c = this-part (c .before .before .before .before .before .before .before .before .before .before .before .before .before .before .args .version) (c .before .before .before .before .before .before .before .before .enum-told .given .1) (field-laid (c .before .before .before .before .before .count .ensures))
 
--- src/places.rt:18:1
+-- src/places.rt:19:1
 same-length-3 : tie.Need-same-length-3
 same-length-3 c = search needs
 
--- src/places.rt:18:1
+-- src/places.rt:19:1
 same-length-4 : tie.Need-same-length-4
 same-length-4 c = search needs
 
--- src/places.rt:18:1
+-- src/places.rt:19:1
 returns-2 : tie.Need-returns-2
 returns-2 c = this-part (c .before .before .before .before .before .before .before .before .before .before .before .before .before .before .args .version) (c .before .before .before .before .before .before .before .before .part .given .1) (c .before .before .before .before .leaf-parts .ensures)
 
--- src/places.rt:18:1
+-- src/places.rt:19:1
 same-length-5 : tie.Need-same-length-5
 same-length-5 c = search needs
 
--- src/places.rt:18:1
+-- src/places.rt:19:1
 same-length-6 : tie.Need-same-length-6
 same-length-6 c = search needs
 
--- src/places.rt:18:1
+-- src/places.rt:19:1
 returns-3 : tie.Need-returns-3
-returns-3 c = this-part (c .before .before .before .before .before .before .before .before .before .before .before .before .before .args .version) (c .before .before .before .before .before .before .before .enum-told2 .given .1) (c .before .before .before .before .paint .ensures)
+returns-3 c = this-part (c .before .before .before .before .before .before .before .before .before .before .before .before .before .before .args .version) (c .before .before .before .before .before .before .before .before .enum-told2 .given .1) (field-laid (c .before .before .before .before .before .flow-flag .ensures))
 
--- src/places.rt:18:1
+-- src/places.rt:19:1
 same-length-7 : tie.Need-same-length-7
 same-length-7 c = search needs
 
--- src/places.rt:18:1
+-- src/places.rt:19:1
 same-length-8 : tie.Need-same-length-8
 same-length-8 c = search needs
 
--- src/places.rt:18:1
+-- src/places.rt:19:1
 returns-4 : tie.Need-returns-4
-returns-4 c = this-part (c .before .before .before .before .before .before .before .before .before .before .before .before .before .args .version) (c .before .before .before .before .before .before .before .enum-told3 .given .1) (c .before .before .before .before .plain-paint .ensures)
+returns-4 c = this-part (c .before .before .before .before .before .before .before .before .before .before .before .before .before .args .version) (c .before .before .before .before .before .before .before .enum-told3 .given .1) (c .before .before .before .before .paint .ensures)
 
--- src/places.rt:18:1
+-- src/places.rt:19:1
 same-length-9 : tie.Need-same-length-9
 same-length-9 c = search needs
 
--- src/places.rt:18:1
+-- src/places.rt:19:1
 same-length-10 : tie.Need-same-length-10
 same-length-10 c = search needs
 
--- src/places.rt:18:1
+-- src/places.rt:19:1
 returns-5 : tie.Need-returns-5
-returns-5 c = this-part (c .before .before .before .before .before .before .before .before .before .before .before .before .before .args .version) (c .before .before .before .before .before .before .before .enum-told4 .given .1) (c .before .before .before .before .font .ensures)
+returns-5 c = this-part (c .before .before .before .before .before .before .before .before .before .before .before .before .before .args .version) (c .before .before .before .before .before .before .before .enum-told4 .given .1) (c .before .before .before .before .plain-paint .ensures)
 
--- src/places.rt:18:1
+-- src/places.rt:19:1
 same-length-11 : tie.Need-same-length-11
 same-length-11 c = search needs
 
--- src/places.rt:18:1
+-- src/places.rt:19:1
 same-length-12 : tie.Need-same-length-12
 same-length-12 c = search needs
 
--- src/places.rt:18:1
+-- src/places.rt:19:1
 returns-6 : tie.Need-returns-6
-returns-6 c = this-part (c .before .before .before .before .before .before .before .before .before .before .before .before .before .args .version) (c .before .before .before .before .before .before .before .enum-told5 .given .1) (c .before .before .before .before .latex-if .ensures)
+returns-6 c = this-part (c .before .before .before .before .before .before .before .before .before .before .before .before .before .args .version) (c .before .before .before .before .before .before .before .enum-told5 .given .1) (c .before .before .before .before .font .ensures)
 
--- src/places.rt:18:1
+-- src/places.rt:19:1
 same-length-13 : tie.Need-same-length-13
 same-length-13 c = search needs
 
--- src/places.rt:18:1
+-- src/places.rt:19:1
 same-length-14 : tie.Need-same-length-14
 same-length-14 c = search needs
 
--- src/places.rt:18:1
+-- src/places.rt:19:1
 returns-7 : tie.Need-returns-7
-returns-7 c = this-part (c .before .before .before .before .before .before .before .before .before .before .before .before .before .args .version) (c .before .before .before .before .before .before .before .enum-told6 .given .1) (c .before .before .before .before .before-alternative .ensures)
+returns-7 c = this-part (c .before .before .before .before .before .before .before .before .before .before .before .before .before .args .version) (c .before .before .before .before .before .before .before .enum-told6 .given .1) (c .before .before .before .before .latex-if .ensures)
+
+-- src/places.rt:19:1
+same-length-15 : tie.Need-same-length-15
+same-length-15 c = search needs
+
+-- src/places.rt:19:1
+same-length-16 : tie.Need-same-length-16
+same-length-16 c = search needs
+
+-- src/places.rt:19:1
+returns-8 : tie.Need-returns-8
+returns-8 c = this-part (c .before .before .before .before .before .before .before .before .before .before .before .before .before .args .version) (c .before .before .before .before .before .before .before .enum-told7 .given .1) (c .before .before .before .before .before-alternative .ensures)
 
 pub pass-spec : {M : Type 1} → statement M
 pass-spec =
@@ -163,14 +184,16 @@ pass-spec =
     enum-known-part
     leaf-parts-requires
     enum-told-2
-    paint-requires
+    flow-flag-requires
     enum-told-3
-    plain-paint-requires
+    paint-requires
     enum-told-4
-    font-requires
+    plain-paint-requires
     enum-told-5
-    latex-if-requires
+    font-requires
     enum-told-6
+    latex-if-requires
+    enum-told-7
     before-alternative-requires
     same-length
     same-length-2
@@ -192,4 +215,7 @@ pass-spec =
     returns-6
     same-length-13
     same-length-14
-    returns-7)
+    returns-7
+    same-length-15
+    same-length-16
+    returns-8)
