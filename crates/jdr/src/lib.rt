@@ -9,6 +9,7 @@ ghost use lib.ListN.{length};
 ghost use Rattle.drawing.specs.Questions.{shown};
 pub use drawing::Answer;
 pub use drawing::PaintAnswer;
+pub use drawing::Span;
 pub use drawing::TextAnswer;
 pub use drawing::Which;
 
