@@ -1,7 +1,7 @@
 // Big-endian fields of a file, read at a place: the number that the field's bytes write in base 256.
 // A field of two parts is the first part, moved up by the width of the second, and the second.
 ghost use mathlib.Core.Path.{_≡_};
-ghost use Prim.Native.Nat.{_+_, _≤_};
+ghost use Prim.Native.Nat.{_+_, _*_, _/_, _%_, _<_, _≤_};
 ghost use lib.ListN.{length, take, drop};
 ghost use mir.Syntax.{w32};
 ghost use mir.Val.{toZ};
@@ -14,13 +14,22 @@ pub fn byte_at(file: &[u8], at: usize) -> u32
     file[at] as u32
 }
 
+// A char with its bytes exchanged. Of a sum whose first byte is the lowest the compiler makes one load, and of many such sums loads of several chars.
+fn exchanged_char_at(file: &[u8], at: usize) -> u32
+    requires { ⌜ at + 2 ≤ length (now file) ⌝ }
+    ensures { λ r. ⌜ (r % 256 * 256 + r / 256 ≡ number 256 (take 2 (drop at (now (file .entry))))) × (r < 65536) ⌝ }
+{
+    let first = file[at] as u32;
+    let second = file[at + 1] as u32;
+    second * 256 + first
+}
+
 pub fn char_at(file: &[u8], at: usize) -> u32
     requires { ⌜ at + 2 ≤ length (now file) ⌝ }
     ensures { λ r. ⌜ r ≡ number 256 (take 2 (drop at (now (file .entry)))) ⌝ }
 {
-    let first = byte_at(file, at);
-    let second = byte_at(file, at + 1);
-    first * 256 + second
+    let exchanged = exchanged_char_at(file, at);
+    exchanged % 256 * 256 + exchanged / 256
 }
 
 pub fn word_at(file: &[u8], at: usize) -> u32
@@ -53,11 +62,4 @@ pub fn signed(word: u32) -> i32
     } else {
         -1 - ((4294967295 - word) as i32)
     }
-}
-
-pub fn integer_at(file: &[u8], at: usize) -> i32
-    requires { ⌜ at + 4 ≤ length (now file) ⌝ }
-    ensures { λ r. ⌜ r ≡ toZ w32 (number 256 (take 4 (drop at (now (file .entry))))) ⌝ }
-{
-    signed(word_at(file, at))
 }
