@@ -1,7 +1,4 @@
--- Laws of the parts of a drawing, one file a part.
-pub mod PaintLaws
-pub mod MarkerLaws
-pub mod DashLaws
+-- Laws of the parts that a drawing's head and its objects are made of.
 pub mod Segments
 pub mod SegmentLaws
 pub mod Doubles

@@ -1,15 +1,8 @@
 // The layout in code: one function for each thing of the format, which passes over its fields from a file's bytes into a table's words, or from a
-// table's words into a file's bytes.
-pub mod bitmap;
-pub mod line_style;
-pub mod marker;
-pub mod object;
-pub mod paint;
-pub mod path;
+// table's words into a file's bytes. Here are the parts that the head and the objects are made of.
 pub mod segment;
 pub mod settings;
 pub mod string;
-pub mod text;
 pub mod transformation;
 
 use passes::Pass;

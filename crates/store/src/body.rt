@@ -1,7 +1,7 @@
 // What stands behind a leaf's id, what ends a group, and the settings: passes that store their words.
 use crate::Cursor;
-use parts::object::leaf_body;
-use parts::object::object_end;
+use leaves::object::leaf_body;
+use leaves::object::object_end;
 use parts::settings::settings;
 use passes::Pass;
 ghost use lib.ListN.{length};

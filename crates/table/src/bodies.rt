@@ -1,8 +1,8 @@
 // The parts of a table's bodies, from its words into the file's memory; and the words that are judged alone.
 use kinds::numbers::count;
 use kinds::numbers::integer_to;
-use parts::object::leaf_body;
-use parts::object::object_end;
+use leaves::object::leaf_body;
+use leaves::object::object_end;
 use parts::settings::settings;
 use passes::Pass;
 use passes::Took;

@@ -8,12 +8,12 @@ use Rattle.questions.proofs.places.pass.Reads as reads
 use Rattle.questions.proofs.places.pass.Lts as lts
 use Rattle.kinds.proofs.numbers.count.Reads as count-reads
 use Rattle.kinds.proofs.numbers.flow_flag.Reads as flow-flag-reads
-use Rattle.parts.proofs.object.leaf_parts.Reads as leaf-parts-reads
-use Rattle.parts.proofs.paint.paint.Reads as paint-reads
-use Rattle.parts.proofs.paint.plain_paint.Reads as plain-paint-reads
-use Rattle.parts.proofs.text.before_alternative.Reads as before-alternative-reads
-use Rattle.parts.proofs.text.font.Reads as font-reads
-use Rattle.parts.proofs.text.latex_if.Reads as latex-if-reads
+use Rattle.leaves.proofs.object.leaf_parts.Reads as leaf-parts-reads
+use Rattle.styles.proofs.paint.paint.Reads as paint-reads
+use Rattle.styles.proofs.paint.plain_paint.Reads as plain-paint-reads
+use Rattle.leaves.proofs.text.before_alternative.Reads as before-alternative-reads
+use Rattle.leaves.proofs.text.font.Reads as font-reads
+use Rattle.leaves.proofs.text.latex_if.Reads as latex-if-reads
 
 -- src/places.rt:34:46
 enum-told : tie.Need-enum-told

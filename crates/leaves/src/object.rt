@@ -1,0 +1,69 @@
+// What follows the id of a leaf, and what ends every object.
+use crate::bitmap::bitmap;
+use crate::path::path;
+use crate::text::text;
+use kinds::numbers::flow_flag;
+use parts::string::string;
+use passes::Pass;
+ghost use Rattle.format.specs.Alternative.{told};
+ghost use Rattle.drawing.specs.LeafLayout.{pathCase, otherCases, leafBody, objectEnd};
+ghost use Rattle.passes.specs.Carries.{Begins, Carries};
+
+pub fn object_end(
+    file: &[u8],
+    words: &[u32],
+    bodies: &mut [u32],
+    out: &mut [u8],
+    reverse: bool,
+    p: Pass,
+    version: u32,
+) -> Pass
+    requires { ⌜ Begins reverse (now file) (now words) p ⌝ }
+    ensures { λ r. ⌜ Carries (objectEnd version) reverse (now (file .entry)) (now (words .entry)) (now (bodies .entry)) (now (out .entry)) (now (bodies .exit)) (now (out .exit)) p r ⌝ }
+{
+    let flow = flow_flag(file, words, bodies, out, reverse, p);
+    let behind = flow.pass;
+    if version < 2 {
+        return behind;
+    }
+    string(file, words, bodies, out, reverse, behind, 0)
+}
+
+pub fn leaf_parts(
+    file: &[u8],
+    words: &[u32],
+    bodies: &mut [u32],
+    out: &mut [u8],
+    reverse: bool,
+    p: Pass,
+    version: u32,
+    letter: u64,
+) -> Pass
+    requires { ⌜ Begins reverse (now file) (now words) p ⌝ }
+    ensures { λ r. ⌜ Carries (told (pathCase version) (otherCases version) letter) reverse (now (file .entry)) (now (words .entry)) (now (bodies .entry)) (now (out .entry)) (now (bodies .exit)) (now (out .exit)) p r ⌝ }
+{
+    if letter == 84 {
+        return text(file, words, bodies, out, reverse, p, version);
+    }
+    if letter == 73 {
+        return bitmap(file, words, bodies, out, reverse, p);
+    }
+    path(file, words, bodies, out, reverse, p, version)
+}
+
+pub fn leaf_body(
+    file: &[u8],
+    words: &[u32],
+    bodies: &mut [u32],
+    out: &mut [u8],
+    reverse: bool,
+    p: Pass,
+    version: u32,
+    letter: u64,
+) -> Pass
+    requires { ⌜ Begins reverse (now file) (now words) p ⌝ }
+    ensures { λ r. ⌜ Carries (leafBody version letter) reverse (now (file .entry)) (now (words .entry)) (now (bodies .entry)) (now (out .entry)) (now (bodies .exit)) (now (out .exit)) p r ⌝ }
+{
+    let parts = leaf_parts(file, words, bodies, out, reverse, p, version, letter);
+    object_end(file, words, bodies, out, reverse, parts, version)
+}
