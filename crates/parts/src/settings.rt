@@ -11,7 +11,7 @@ ghost use mathlib.Core.Bool.{cond};
 ghost use Prim.Native.Nat.{_<_};
 ghost use lib.Dec.{ltb, leb};
 ghost use mathlib.Core.List.{[], _∷_};
-ghost use Rattle.format.specs.Layout.{field, when};
+ghost use Rattle.format.specs.Layout.{field, when, _&_};
 ghost use Rattle.format.specs.Choice.{oneOf};
 ghost use Rattle.drawing.specs.Fields as F;
 ghost use Rattle.drawing.specs.Settings as S;
@@ -70,6 +70,46 @@ fn paper(
     behind
 }
 
+// The settings are passed in three steps, since what is proved of a function grows with the square of its calls.
+fn ruler_settings(
+    file: &[u8],
+    words: &[u32],
+    bodies: &mut [u32],
+    out: &mut [u8],
+    reverse: bool,
+    p: Pass,
+) -> Pass
+    requires { ⌜ Begins reverse (now file) (now words) p ⌝ }
+    ensures { λ r. ⌜ Carries (field (F.byteIn 0 3) & field F.integer & field F.integer) reverse (now (file .entry)) (now (words .entry)) (now (bodies .entry)) (now (out .entry)) (now (bodies .exit)) (now (out .exit)) p r ⌝ }
+{
+    let unit = byte(file, words, bodies, out, reverse, p, 0, 3);
+    let measured = unit.pass;
+    let major = integer(file, words, bodies, out, reverse, measured);
+    let behind = major.pass;
+    let minor = integer(file, words, bodies, out, reverse, behind);
+    minor.pass
+}
+
+fn tool_settings(
+    file: &[u8],
+    words: &[u32],
+    bodies: &mut [u32],
+    out: &mut [u8],
+    reverse: bool,
+    p: Pass,
+    version: u32,
+) -> Pass
+    requires { ⌜ Begins reverse (now file) (now words) p ⌝ }
+    ensures { λ r. ⌜ Carries (field (F.integerIn 0 7) & field F.integer & S.paper version & field (F.byteIn 0 3) & field F.integer & field F.integer) reverse (now (file .entry)) (now (words .entry)) (now (bodies .entry)) (now (out .entry)) (now (bodies .exit)) (now (out .exit)) p r ⌝ }
+{
+    let tool = integer_to(file, words, bodies, out, reverse, p, 7);
+    let tooled = tool.pass;
+    let normal = integer(file, words, bodies, out, reverse, tooled);
+    let sized = normal.pass;
+    let papered = paper(file, words, bodies, out, reverse, sized, version);
+    ruler_settings(file, words, bodies, out, reverse, papered)
+}
+
 fn all_settings(
     file: &[u8],
     words: &[u32],
@@ -88,17 +128,7 @@ fn all_settings(
     let locked = lock.pass;
     let rulers = flag(file, words, bodies, out, reverse, locked);
     let ruled = rulers.pass;
-    let tool = integer_to(file, words, bodies, out, reverse, ruled, 7);
-    let tooled = tool.pass;
-    let normal = integer(file, words, bodies, out, reverse, tooled);
-    let sized = normal.pass;
-    let papered = paper(file, words, bodies, out, reverse, sized, version);
-    let unit = byte(file, words, bodies, out, reverse, papered, 0, 3);
-    let measured = unit.pass;
-    let major = integer(file, words, bodies, out, reverse, measured);
-    let behind = major.pass;
-    let minor = integer(file, words, bodies, out, reverse, behind);
-    minor.pass
+    tool_settings(file, words, bodies, out, reverse, ruled, version)
 }
 
 fn settings_from_flag(

@@ -20,5 +20,9 @@ pub fn string(
     let counted = string_length(file, words, bodies, out, reverse, p, least);
     let count = counted.value;
     let counted_to = counted.pass;
+    // most descriptions are empty
+    if count == 0 {
+        return counted_to;
+    }
     run(file, words, bodies, out, reverse, counted_to, 2, count)
 }

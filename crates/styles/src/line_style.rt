@@ -8,7 +8,7 @@ use passes::runs::run;
 ghost use lib.Dec.{eqb, ltb, leb};
 ghost use lib.ListN.{length};
 ghost use mathlib.Core.List.{[]};
-ghost use Rattle.format.specs.Layout.{field, counted, when, _▸_};
+ghost use Rattle.format.specs.Layout.{field, counted, when, _&_, _▸_};
 ghost use Rattle.drawing.specs.Fields as F;
 ghost use Rattle.drawing.specs.MarkerChain.{markers};
 ghost use Rattle.drawing.specs.LineStyle.{lineStyle};
@@ -74,6 +74,26 @@ fn mid_markers(
     markers(file, words, bodies, out, reverse, p, version)
 }
 
+// What follows the join: the winding rule, and three chains of markers.
+fn winding_and_markers(
+    file: &[u8],
+    words: &[u32],
+    bodies: &mut [u32],
+    out: &mut [u8],
+    reverse: bool,
+    p: Pass,
+    version: u32,
+) -> Pass
+    requires { ⌜ Begins reverse (now file) (now words) p ⌝ }
+    ensures { λ r. ⌜ Carries (field (F.byteIn 0 1) & markers version & when (leb 1 version) (markers version) [] & markers version) reverse (now (file .entry)) (now (words .entry)) (now (bodies .entry)) (now (out .entry)) (now (bodies .exit)) (now (out .exit)) p r ⌝ }
+{
+    let winding = byte(file, words, bodies, out, reverse, p, 0, 1);
+    let wound = winding.pass;
+    let start = markers(file, words, bodies, out, reverse, wound, version);
+    let mid = mid_markers(file, words, bodies, out, reverse, start, version);
+    markers(file, words, bodies, out, reverse, mid, version)
+}
+
 pub fn line_style(
     file: &[u8],
     words: &[u32],
@@ -92,9 +112,5 @@ pub fn line_style(
     let cap = byte(file, words, bodies, out, reverse, dashed, 0, 2);
     let capped = cap.pass;
     let joined = join(file, words, bodies, out, reverse, capped);
-    let winding = byte(file, words, bodies, out, reverse, joined, 0, 1);
-    let wound = winding.pass;
-    let start = markers(file, words, bodies, out, reverse, wound, version);
-    let mid = mid_markers(file, words, bodies, out, reverse, start, version);
-    markers(file, words, bodies, out, reverse, mid, version)
+    winding_and_markers(file, words, bodies, out, reverse, joined, version)
 }
