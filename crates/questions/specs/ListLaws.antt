@@ -74,8 +74,11 @@ module _ {c bs : List ℕ} (below : Below (2 ^ 32) bs) {a : Answer} (checks : Ch
       count-is : count ≡ length (entries label (here .d))
       count-is = counted (here .d) (here .table) .count-is
 
+      few : count ≤ a .rows
+      few = omega (arith, count-is, entries-length-le label (here .d), here .rows-are)
+
       pub count-small : count ≤ lengthLimit
-      count-small = omega (arith, count-is, entries-length-le label (here .d), rows-small table-here, here .rows-are)
+      count-small = omega (arith, few, rows-small table-here)
 
       by-room : (n : ℕ) → unless (leb (length (entries label (here .d))) (length list)) 18 ≡ n → listed n (entries label (here .d)) list ≡ listOutput c bs label list
       by-room n is = ap (λ k. listed k (entries label (here .d)) list) (sym is) ∙ sym (ap (λ o. listFrom o label list) (here .is))
@@ -105,3 +108,7 @@ module _ {c bs : List ℕ} (below : Below (2 ^ 32) bs) {a : Answer} (checks : Ch
             listed = λ zero-is. (here .d, subst (λ l. Listed c bs label l (here .d)) (sym entries-are) (entries-listed c bs label (here .d) (here .table)));
             answers = λ d table room. refl;
           }
+
+    -- Room for all rows is room for the entries, whose count is then known only with them stored.
+    pub list-stored-at-once : a .rows ≤ length list → {list′ : List ℕ} {n : ℕ} → Enters c bs label list list′ n → Lists c bs label list (answer 0 0 n 0) list′
+    list-stored-at-once room gathered = list-stored gathered (λ short. omega (arith, short, few gathered, room)) gathered
