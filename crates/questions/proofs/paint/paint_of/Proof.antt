@@ -6,7 +6,7 @@ use Rattle.questions.proofs.paint.paint_of.Tie as tie
 use Rattle.questions.proofs.paint.paint_of.Reads as reads
 use Rattle.questions.proofs.paint.paint_of.Lts as lts
 use Rattle.questions.proofs.paint_words.paint_at.Reads as paint-at-reads
-use Rattle.questions.proofs.places.behind.Reads as behind-reads
+use Rattle.places.proofs.behind.behind.Reads as behind-reads
 
 -- src/paint.rt:22:25
 mul-kind : tie.Need-mul-kind

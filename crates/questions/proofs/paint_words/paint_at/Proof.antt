@@ -9,7 +9,7 @@ use Rattle.questions.proofs.paint_words.paint_at.Tie as tie
 use Rattle.questions.proofs.paint_words.paint_at.Reads as reads
 use Rattle.questions.proofs.paint_words.paint_at.Lts as lts
 use Rattle.questions.proofs.paint_words.plain_at.Reads as plain-at-reads
-use Rattle.questions.proofs.places.behind.Reads as behind-reads
+use Rattle.places.proofs.behind.behind.Reads as behind-reads
 
 -- src/paint_words.rt:66:18
 mul-letter : tie.Need-mul-letter

@@ -6,7 +6,7 @@ use Rattle.questions.proofs.text.alternative_chars.Statement.{statement
 use Rattle.questions.proofs.text.alternative_chars.Tie as tie
 use Rattle.questions.proofs.text.alternative_chars.Reads as reads
 use Rattle.questions.proofs.text.alternative_chars.Lts as lts
-use Rattle.questions.proofs.places.behind.Reads as behind-reads
+use Rattle.places.proofs.behind.behind.Reads as behind-reads
 use Rattle.questions.proofs.text.chars_at.Reads as chars-at-reads
 
 -- src/text.rt:49:8

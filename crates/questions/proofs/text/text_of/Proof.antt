@@ -6,7 +6,7 @@ use Rattle.questions.proofs.text.text_of.Statement.{statement}
 use Rattle.questions.proofs.text.text_of.Tie as tie
 use Rattle.questions.proofs.text.text_of.Reads as reads
 use Rattle.questions.proofs.text.text_of.Lts as lts
-use Rattle.questions.proofs.places.behind.Reads as behind-reads
+use Rattle.places.proofs.behind.behind.Reads as behind-reads
 use Rattle.questions.proofs.text.alternative_chars.Reads as alternative-chars-reads
 use Rattle.questions.proofs.text.chars_at.Reads as chars-at-reads
 use Rattle.questions.proofs.text.refused.Reads as refused-reads
