@@ -9,18 +9,18 @@ use lib.Seq.{drop-drop, drop-append-seam, getD-drop}
 use Rattle.format.specs.Layout.{Layout, _&_}
 use Rattle.drawing.specs.Table.{wordsOf}
 use Rattle.places.specs.WordLaws.{pair-words}
-use Rattle.places.specs.Places.{Stands, Here, Behind}
+use Rattle.places.specs.Places.{WordsStand, Here, Behind}
 
 module _ {ws : List ℕ} {at : ℕ} where
-  pub stands-long : {xs zs : List ℕ} → Stands ws at xs zs → at + length xs ≤ length ws
+  pub stands-long : {xs zs : List ℕ} → WordsStand ws at xs zs → at + length xs ≤ length ws
   stands-long {xs} {zs} stands = omega (arith, sym (length-drop at ws) ∙ ap length (stands .words-are) ∙ length-append xs zs, stands .within)
 
   -- Of two runs the first stands here, and the other one behind it.
-  module _ (xs ys : List ℕ) {zs : List ℕ} (stands : Stands ws at (xs ++ ys) zs) where
-    pub stands-first : Stands ws at xs (ys ++ zs)
+  module _ (xs ys : List ℕ) {zs : List ℕ} (stands : WordsStand ws at (xs ++ ys) zs) where
+    pub stands-first : WordsStand ws at xs (ys ++ zs)
     stands-first = record { within = stands .within; words-are = stands .words-are ∙ append-assoc xs ys zs }
 
-    pub stands-next : Stands ws (at + length xs) ys zs
+    pub stands-next : WordsStand ws (at + length xs) ys zs
     stands-next =
         record {
           within = stands-long stands-first;
@@ -28,8 +28,8 @@ module _ {ws : List ℕ} {at : ℕ} where
         }
 
 module _ {A : Type 0} {N : Layout A} {ws : List ℕ} {at : ℕ} {a : A} (here : Here N ws at a) where
-  same-stands : {these : List ℕ} → wordsOf N a ≡ these → Stands ws at these (here .rest)
-  same-stands same = subst (λ l. Stands ws at l (here .rest)) same (here .stands)
+  same-stands : {these : List ℕ} → wordsOf N a ≡ these → WordsStand ws at these (here .rest)
+  same-stands same = subst (λ l. WordsStand ws at l (here .rest)) same (here .stands)
 
   -- Another value with the same words stands here too.
   pub here-as : {B : Type 0} (M : Layout B) {b : B} → wordsOf N a ≡ wordsOf M b → M .Good b → Here M ws at b

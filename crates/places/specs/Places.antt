@@ -8,7 +8,7 @@ use Rattle.drawing.specs.Limits.{lengthLimit}
 use Rattle.drawing.specs.Table.{wordsOf}
 
 -- These words stand here, and then those.
-pub record Stands (ws : List ℕ) (at : ℕ) (these those : List ℕ) : Type 0 where
+pub record WordsStand (ws : List ℕ) (at : ℕ) (these those : List ℕ) : Type 0 where
   pub within : at ≤ length ws
   pub words-are : drop at ws ≡ these ++ those
 
@@ -16,7 +16,7 @@ pub record Stands (ws : List ℕ) (at : ℕ) (these those : List ℕ) : Type 0 w
 pub record Here {A : Type 0} (L : Layout A) (ws : List ℕ) (at : ℕ) (a : A) : Type 0 where
   pub good : L .Good a
   pub rest : List ℕ
-  pub stands : Stands ws at (wordsOf L a) rest
+  pub stands : WordsStand ws at (wordsOf L a) rest
 
 -- The place behind whatever good value stands here.
 abbrev pub Behind : {A : Type 0} → Layout A → List ℕ → (at behind : ℕ) → Type 0

@@ -19,7 +19,7 @@ use Rattle.laws.specs.ObjectGood.{good-leaf, good-group, no-group}
 use Rattle.laws.specs.FileGood.{file-parts}
 use Rattle.laws.specs.WalkComplete.{AllGood}
 use Rattle.laws.specs.OrderLaws.{rows-preorder, contents-length, Each, each-append, each-at, beyond}
-use Rattle.places.specs.Places.{Stands}
+use Rattle.places.specs.Places.{WordsStand}
 use Rattle.places.specs.PlaceLaws.{stands-long, stands-first, stands-next}
 use Rattle.places.specs.RowBodies.{ownWords, objectKind, OwnGood, RowBody}
 
@@ -60,7 +60,7 @@ module _ (v : ℕ) (C B : List ℕ) where
   -- One row and the words that it tells of.
   says : {p at : ℕ} {behind rest : List ℕ} (own : ℕ) (o : Object)
       → drop (4 * own) C ≡ objectKind o ∷ p ∷ at ∷ length (ownWords v o) ∷ behind
-      → Stands B at (ownWords v o) rest → OwnGood v o → RowBody C B v own o
+      → WordsStand B at (ownWords v o) rest → OwnGood v o → RowBody C B v own o
   says {at = at} {rest = rest} own o e s g =
       let word : (i : ℕ) → getD C (4 * own + i) 0 ≡ getD (drop (4 * own) C) i 0 = λ i. sym (getD-drop (4 * own) C i 0) in
       let start : getD C (4 * own + 2) 0 ≡ at = word 2 ∙ ap (λ (l : List ℕ). getD l 2 0) e in
@@ -75,8 +75,8 @@ module _ (v : ℕ) (C B : List ℕ) where
 
   -- A group's row, and those of its members.
   group-rows : (os : Objects) (d : String) (p own at : ℕ) (behind rest : List ℕ) → OwnGood v (group os d)
-      → drop (4 * own) C ≡ contents (group os d) v p own at ++ behind → Stands B at (bodies (group os d) v) rest
-      → (drop (4 * suc own) C ≡ contentsAll os v own (suc own) at ++ behind → Stands B at (bodiesAll os v) (groupWords v (length (listOf os)) d ++ rest) → Each (RowBody C B v) (suc own) (preorderAll os))
+      → drop (4 * own) C ≡ contents (group os d) v p own at ++ behind → WordsStand B at (bodies (group os d) v) rest
+      → (drop (4 * suc own) C ≡ contentsAll os v own (suc own) at ++ behind → WordsStand B at (bodiesAll os v) (groupWords v (length (listOf os)) d ++ rest) → Each (RowBody C B v) (suc own) (preorderAll os))
       → Each (RowBody C B v) own (preorder (group os d))
   group-rows os d p own at behind rest g e s members =
       let words = groupWords v (length (listOf os)) d in
@@ -87,7 +87,7 @@ module _ (v : ℕ) (C B : List ℕ) where
   -- Where an object's rows and bodies stand at their places, each of its rows says what it should.
   mutual
     each-object : (o : Object) (deep p own at : ℕ) (behind rest : List ℕ) → object v deep .Good o
-        → drop (4 * own) C ≡ contents o v p own at ++ behind → Stands B at (bodies o v) rest → Each (RowBody C B v) own (preorder o)
+        → drop (4 * own) C ≡ contents o v p own at ++ behind → WordsStand B at (bodies o v) rest → Each (RowBody C B v) own (preorder o)
     each-object (leaf l d) deep p own at behind rest g e s = (says own (leaf l d) e s (good-leaf v deep l d g), tt)
     each-object (group os d) zero p own at behind rest g e s = absurd (no-group v os d g)
     each-object (group os d) (suc deep) p own at behind rest g e s =
@@ -96,7 +96,7 @@ module _ (v : ℕ) (C B : List ℕ) where
         (λ f inner. each-member os deep own (suc own) at behind (groupWords v (length (listOf os)) d ++ rest) (body .0 .1 .1) f inner)
 
     each-member : (os : Objects) (deep p own at : ℕ) (behind rest : List ℕ) → AllGood v deep os
-        → drop (4 * own) C ≡ contentsAll os v p own at ++ behind → Stands B at (bodiesAll os v) rest → Each (RowBody C B v) own (preorderAll os)
+        → drop (4 * own) C ≡ contentsAll os v p own at ++ behind → WordsStand B at (bodiesAll os v) rest → Each (RowBody C B v) own (preorderAll os)
     each-member none deep p own at behind rest g e s = tt
     each-member (more o os) deep p own at behind rest g e s =
         let next = own + rows o in
@@ -112,7 +112,7 @@ module _ (v : ℕ) (C B : List ℕ) where
         (rw rows-preorder (each-member os deep p next after behind rest (g .1) f (stands-next (bodies o v) (bodiesAll os v) s)))
 
 -- The bodies stand behind the head.
-bodies-stand : (c bs : List ℕ) (d : Drawing) → IsTable c bs d → Stands bs (length (headWords d)) (bodies (outer d) (d .version)) []
+bodies-stand : (c bs : List ℕ) (d : Drawing) → IsTable c bs d → WordsStand bs (length (headWords d)) (bodies (outer d) (d .version)) []
 bodies-stand c bs d t =
     let own = bodies (outer d) (d .version) in
     let l = ap length (t .bodies-are) ∙ length-append (headWords d) own in

@@ -7,23 +7,18 @@ use Rattle.listing.proofs.entries.enter.Reads as reads
 use Rattle.listing.proofs.entries.enter.Lts as lts
 use Rattle.listing.proofs.entries.store_entry.Reads as store-entry-reads
 
--- src/entries.rt:24:9
 store-entry-requires : tie.Need-store-entry-requires
 store-entry-requires c κs = search needs
 
--- src/entries.rt:25:16
 add-result : tie.Need-add-result
 add-result c = search needs
 
--- src/entries.rt:25:9
 same-length : tie.Need-same-length
 same-length c = search needs
 
--- src/entries.rt:25:9
 returns : tie.Need-returns
 returns c = entered (c .before .before .before .before .if1 .taken) (c .before .before .store-entry .ensures)
 
--- src/entries.rt:19:1
 returns-2 : tie.Need-returns-2
 returns-2 c = not-entered (c .if1 .left)
 

@@ -17,35 +17,27 @@ Inv-loop contents words label list₀ rows version row₀ count₀ list row coun
 abbrev μ-loop : tie.MeasureT-loop
 μ-loop contents words label list₀ rows version row₀ count₀ list row count = rows - row
 
--- src/entries.rt:43:5
 loop-holds : tie.Need-loop-holds Inv-loop μ-loop
 loop-holds c = record { table = c .before .before .before .before .pre; gathering = gather-none (c .before .before .before .before .pre) (c .before .before .before .before .args .label .now) (c .before .before .before .before .args .list .now); most = omega arith }
 
--- src/entries.rt:44:13
 is-labelled-requires : tie.Need-is-labelled-requires Inv-loop μ-loop
 is-labelled-requires c κs = row-here (c .before .loop .inv .table) (c .before .loop .row) (c .loop-test .taken)
 
--- src/entries.rt:45:9
 enter-requires : tie.Need-enter-requires Inv-loop μ-loop
 enter-requires c κs = let small = rows-small (c .before .before .before .loop .inv .table) in (omega (arith, small, c .before .before .loop-test .taken), omega (arith, small, c .before .before .loop-test .taken, c .before .before .before .loop .inv .gathering .few, c .before .before .before .loop .inv .gathering .count-is))
 
--- src/entries.rt:46:15
 add-row : tie.Need-add-row Inv-loop μ-loop
 add-row c = let small = rows-small (c .before .before .before .before .before .before .loop .inv .table) in omega (arith, small, c .before .before .before .before .before .loop-test .taken)
 
--- src/entries.rt:43:5
 loop-less : tie.Need-loop-less Inv-loop μ-loop
 loop-less c = omega (arith, c .before .before .before .before .before .loop-test .taken)
 
--- src/entries.rt:43:5
 loop-again : tie.Need-loop-again Inv-loop μ-loop
 loop-again c = record { table = c .before .before .before .before .before .before .loop .inv .table; gathering = gather-one (c .before .before .before .before .before .before .loop .inv .table) (c .before .before .before .before .before .before .before .before .before .before .before .args .label .now) (c .before .before .before .before .before .before .loop .inv .gathering) (c .before .before .before .before .before .loop-test .taken) (c .before .before .before .before .is-labelled .ensures) (c .before .before .enter .ensures); most = omega (arith, c .before .before .before .before .before .loop-test .taken) }
 
--- src/entries.rt:30:1
 same-length : tie.Need-same-length Inv-loop μ-loop
 same-length c = c .before .loop .inv .gathering .written .same-length
 
--- src/entries.rt:30:1
 returns : tie.Need-returns Inv-loop μ-loop
 returns c = gather-all (c .before .loop .inv .table) (c .before .before .before .before .before .before .args .label .now) (c .before .loop .inv .gathering) (λ more. omega (arith, more, c .loop-test .left)) (c .before .loop .inv .most)
 

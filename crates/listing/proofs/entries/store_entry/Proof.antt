@@ -7,27 +7,21 @@ use Rattle.listing.proofs.entries.store_entry.Tie as tie
 use Rattle.listing.proofs.entries.store_entry.Reads as reads
 use Rattle.listing.proofs.entries.store_entry.Lts as lts
 
--- src/entries.rt:14:23
 cast-list : tie.Need-cast-list
 cast-list c = search needs
 
--- src/entries.rt:14:9
 mul-list : tie.Need-mul-list
 mul-list c = search needs
 
--- src/entries.rt:14:9
 slice-write-list : tie.Need-slice-write-list
 slice-write-list c = search needs
 
--- src/entries.rt:9:1
 same-length : tie.Need-same-length
 same-length c = search needs
 
--- src/entries.rt:9:1
 returns : tie.Need-returns
 returns c = entry-put (c .before .args .list .now) (c .before .args .place) (c .before .args .row) (c .if1 .taken)
 
--- src/entries.rt:9:1
 returns-2 : tie.Need-returns-2
 returns-2 c = entry-nowhere (c .before .args .list .now) (c .before .args .place) (c .before .args .row) (omega (arith, c .if1 .left))
 

@@ -14,103 +14,78 @@ use Rattle.listing.proofs.label.same_chars.Reads as same-chars-reads
 use Rattle.places.proofs.behind.behind.Reads as behind-reads
 use Rattle.places.proofs.end.end_of.Reads as end-of-reads
 
--- src/label.rt:33:9
 returns : tie.Need-returns
 returns c = λ o body. label-early (c .before .before .before .before .args .contents .now) (c .before .before .before .before .args .words .now) (c .before .before .before .before .args .version) (c .before .before .before .before .args .row) (c .before .before .before .before .args .label .now) (c .if1 .taken) o body
 
--- src/label.rt:35:26
 mul-start : tie.Need-mul-start
 mul-start c = search needs
 
--- src/label.rt:35:26
 add-start : tie.Need-add-start
 add-start c = search needs
 
--- src/label.rt:35:17
 mul-start-2 : tie.Need-mul-start-2
 mul-start-2 c = search needs
 
--- src/label.rt:35:17
 shared-slice-read-start : tie.Need-shared-slice-read-start
 shared-slice-read-start c = search needs
 
--- src/label.rt:35:17
 cast-start : tie.Need-cast-start
 cast-start c = search needs
 
--- src/label.rt:36:25
 mul-size : tie.Need-mul-size
 mul-size c = search needs
 
--- src/label.rt:36:25
 add-size : tie.Need-add-size
 add-size c = search needs
 
--- src/label.rt:36:16
 mul-size-2 : tie.Need-mul-size-2
 mul-size-2 c = search needs
 
--- src/label.rt:36:16
 shared-slice-read-size : tie.Need-shared-slice-read-size
 shared-slice-read-size c = search needs
 
--- src/label.rt:36:16
 cast-size : tie.Need-cast-size
 cast-size c = search needs
 
--- src/label.rt:38:9
 returns-2 : tie.Need-returns-2
 returns-2 c = λ o body. too-long (c .before .before .before .before .before .before .before .args .contents .now) (c .before .before .before .before .before .before .before .args .words .now) (c .before .before .before .before .before .before .before .args .version) (c .before .before .before .before .before .before .before .args .row) (c .before .before .before .before .before .before .before .args .label .now) o (some-description (c .before .before .before .before .before .before .before .args .contents .now) (c .before .before .before .before .before .before .before .args .words .now) (c .before .before .before .before .before .before .before .args .version) (c .before .before .before .before .before .before .before .args .row) (omega (arith, c .before .before .before .if1 .left)) o body .1) (omega (arith, body .size-is, c .if2 .taken))
 
--- src/label.rt:40:16
 add-from : tie.Need-add-from
 add-from c = search needs
 
--- src/label.rt:40:16
 sub-from : tie.Need-sub-from
 sub-from c = search needs
 
--- src/label.rt:41:14
 sub-if3 : tie.Need-sub-if3
 sub-if3 c = search needs
 
--- src/label.rt:41:8
 mul-if3 : tie.Need-mul-if3
 mul-if3 c = search needs
 
--- src/label.rt:41:8
 shared-slice-read-if3 : tie.Need-shared-slice-read-if3
 shared-slice-read-if3 c = search needs
 
--- src/label.rt:41:8
 cast-if3 : tie.Need-cast-if3
 cast-if3 c = let fit = c .shared-slice-known6 .given ((getD (c .before .before .before .before .before .before .before .before .args .contents .now) (4 * c .before .before .before .before .before .before .before .before .args .row + 2) 0 + getD (c .before .before .before .before .before .before .before .before .args .contents .now) (4 * c .before .before .before .before .before .before .before .before .args .row + 3) 0 - length (c .before .before .before .before .before .before .before .before .args .label .now)) - 1) in omega (arith, fit)
 
--- src/label.rt:42:9
 returns-3 : tie.Need-returns-3
 returns-3 c = λ o body. other-number (c .before .before .before .before .before .before .before .before .before .args .contents .now) (c .before .before .before .before .before .before .before .before .before .args .words .now) (c .before .before .before .before .before .before .before .before .before .args .version) (c .before .before .before .before .before .before .before .before .before .args .row) (c .before .before .before .before .before .before .before .before .before .args .label .now) o (some-description (c .before .before .before .before .before .before .before .before .before .args .contents .now) (c .before .before .before .before .before .before .before .before .before .args .words .now) (c .before .before .before .before .before .before .before .before .before .args .version) (c .before .before .before .before .before .before .before .before .before .args .row) (omega (arith, c .before .before .before .before .before .if1 .left)) o body .1) (getD (c .before .before .before .before .before .before .before .before .before .args .contents .now) (4 * c .before .before .before .before .before .before .before .before .before .args .row + 2) 0 + getD (c .before .before .before .before .before .before .before .before .before .args .contents .now) (4 * c .before .before .before .before .before .before .before .before .before .args .row + 3) 0 - length (c .before .before .before .before .before .before .before .before .before .args .label .now)) (omega (arith, body .size-is, c .before .before .if2 .left)) (c .if3 .taken)
 
--- src/label.rt:44:8
 same-chars-requires : tie.Need-same-chars-requires
 same-chars-requires c κs = search needs
 
--- src/label.rt:45:13
 end-of-requires : tie.Need-end-of-requires
 end-of-requires c κs = search needs
 
--- src/label.rt:46:13
 behind-requires : tie.Need-behind-requires
 behind-requires c κs = let e = c .end-of .ensures (c .before .before .before .before .before .before .before .before .before .before .before .before .pre .object) (c .before .before .before .before .before .before .before .before .before .before .before .before .pre .body) in (e .here .stands .within, c .before .before .before .before .before .before .before .before .before .before .before .before .pre .short)
 
--- src/label.rt:47:16
 add-result : tie.Need-add-result
 add-result c = search needs
 
--- src/label.rt:47:9
 returns-4 : tie.Need-returns-4
 returns-4 c = λ o body. told-by-place (c .before .before .before .before .before .before .before .before .before .before .before .before .before .args .contents .now) (c .before .before .before .before .before .before .before .before .before .before .before .before .before .args .words .now) (c .before .before .before .before .before .before .before .before .before .before .before .before .before .args .version) (c .before .before .before .before .before .before .before .before .before .before .before .before .before .args .row) (c .before .before .before .before .before .before .before .before .before .before .before .before .before .args .label .now) o (described (c .before .before .before .before .before .before .before .before .before .before .before .before .before .args .contents .now) (c .before .before .before .before .before .before .before .before .before .before .before .before .before .args .words .now) (c .before .before .before .before .before .before .before .before .before .before .before .before .before .args .version) (c .before .before .before .before .before .before .before .before .before .before .before .before .before .args .row) (omega (arith, c .before .before .before .before .before .before .before .before .before .if1 .left)) o (c .before .end-of .ensures o body) (c .behind .ensures .is)) (getD (c .before .before .before .before .before .before .before .before .before .before .before .before .before .args .contents .now) (4 * c .before .before .before .before .before .before .before .before .before .before .before .before .before .args .row + 2) 0 + getD (c .before .before .before .before .before .before .before .before .before .before .before .before .before .args .contents .now) (4 * c .before .before .before .before .before .before .before .before .before .before .before .before .before .args .row + 3) 0 - length (c .before .before .before .before .before .before .before .before .before .before .before .before .before .args .label .now)) (omega (arith, body .size-is, c .before .before .before .before .before .before .if2 .left)) (sym (c .before .before .before .same-chars .ensures) ∙ c .before .before .if4 .taken)
 
--- src/label.rt:27:1
 returns-5 : tie.Need-returns-5
 returns-5 c = λ o body. other-chars (c .before .before .before .before .before .before .before .before .before .before .before .args .contents .now) (c .before .before .before .before .before .before .before .before .before .before .before .args .words .now) (c .before .before .before .before .before .before .before .before .before .before .before .args .version) (c .before .before .before .before .before .before .before .before .before .before .before .args .row) (c .before .before .before .before .before .before .before .before .before .before .before .args .label .now) o (some-description (c .before .before .before .before .before .before .before .before .before .before .before .args .contents .now) (c .before .before .before .before .before .before .before .before .before .before .before .args .words .now) (c .before .before .before .before .before .before .before .before .before .before .before .args .version) (c .before .before .before .before .before .before .before .before .before .before .before .args .row) (omega (arith, c .before .before .before .before .before .before .before .if1 .left)) o body .1) (getD (c .before .before .before .before .before .before .before .before .before .before .before .args .contents .now) (4 * c .before .before .before .before .before .before .before .before .before .before .before .args .row + 2) 0 + getD (c .before .before .before .before .before .before .before .before .before .before .before .args .contents .now) (4 * c .before .before .before .before .before .before .before .before .before .before .before .args .row + 3) 0 - length (c .before .before .before .before .before .before .before .before .before .before .before .args .label .now)) (omega (arith, body .size-is, c .before .before .before .before .if2 .left)) (sym (c .before .same-chars .ensures) ∙ c .if4 .left)
 

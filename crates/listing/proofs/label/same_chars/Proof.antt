@@ -19,51 +19,39 @@ Inv-loop words from label i₀ i = (equal (take (length label) (drop from words)
 abbrev μ-loop : tie.MeasureT-loop
 μ-loop words from label i₀ i = length label - i
 
--- src/label.rt:16:5
 loop-holds : tie.Need-loop-holds Inv-loop μ-loop
 loop-holds c = (sym (all-chars (c .args .words .now) (c .args .label .now) (c .args .from)), omega arith)
 
--- src/label.rt:17:18
 add-if1 : tie.Need-add-if1 Inv-loop μ-loop
 add-if1 c = search needs
 
--- src/label.rt:17:12
 mul-if1 : tie.Need-mul-if1 Inv-loop μ-loop
 mul-if1 c = search needs
 
--- src/label.rt:17:12
 shared-slice-read-if1 : tie.Need-shared-slice-read-if1 Inv-loop μ-loop
 shared-slice-read-if1 c = search needs
 
--- src/label.rt:17:31
 mul-if1-2 : tie.Need-mul-if1-2 Inv-loop μ-loop
 mul-if1-2 c = search needs
 
--- src/label.rt:17:31
 shared-slice-read-if1-2 : tie.Need-shared-slice-read-if1-2 Inv-loop μ-loop
 shared-slice-read-if1-2 c = search needs
 
--- src/label.rt:17:31
 cast-if1 : tie.Need-cast-if1 Inv-loop μ-loop
 cast-if1 c = let fit = c .shared-slice-known2 .given (c .before .before .before .loop .i) in omega (arith, fit)
 
--- src/label.rt:18:13
 returns : tie.Need-returns Inv-loop μ-loop
 returns c = sym (c .before .before .before .before .loop .inv .0 ∙ one-char (c .before .before .before .before .before .args .words .now) (c .before .before .before .before .before .args .label .now) (c .before .before .before .before .before .args .from) (c .before .before .before .before .loop .i) (c .before .before .before .loop-test .taken) (c .before .before .before .before .before .pre) ∙ ap (λ t. t && left (c .before .before .before .before .before .args .words .now) (c .before .before .before .before .before .args .label .now) (c .before .before .before .before .before .args .from) (c .before .before .before .before .loop .i + 1)) (ne-eqb (getD (c .before .before .before .before .before .args .words .now) (c .before .before .before .before .before .args .from + c .before .before .before .before .loop .i) 0) (getD (c .before .before .before .before .before .args .label .now) (c .before .before .before .before .loop .i) 0) (c .if1 .taken)))
 
--- src/label.rt:20:13
 add-i : tie.Need-add-i Inv-loop μ-loop
 add-i c = search needs
 
--- src/label.rt:16:5
 loop-less : tie.Need-loop-less Inv-loop μ-loop
 loop-less c = omega (arith, c .before .before .before .loop-test .taken)
 
--- src/label.rt:16:5
 loop-again : tie.Need-loop-again Inv-loop μ-loop
 loop-again c = (c .before .before .before .before .loop .inv .0 ∙ one-char (c .before .before .before .before .before .args .words .now) (c .before .before .before .before .before .args .label .now) (c .before .before .before .before .before .args .from) (c .before .before .before .before .loop .i) (c .before .before .before .loop-test .taken) (c .before .before .before .before .before .pre) ∙ ap (λ t. t && left (c .before .before .before .before .before .args .words .now) (c .before .before .before .before .before .args .label .now) (c .before .before .before .before .before .args .from) (c .before .before .before .before .loop .i + 1)) (eq-eqb (getD (c .before .before .before .before .before .args .words .now) (c .before .before .before .before .before .args .from + c .before .before .before .before .loop .i) 0) (getD (c .before .before .before .before .before .args .label .now) (c .before .before .before .before .loop .i) 0) (c .if1 .left)), omega (arith, c .before .before .before .loop-test .taken))
 
--- src/label.rt:11:1
 returns-2 : tie.Need-returns-2 Inv-loop μ-loop
 returns-2 c = sym (c .before .loop .inv .0 ∙ no-char (c .before .before .args .words .now) (c .before .before .args .label .now) (c .before .before .args .from) (c .before .loop .i) (omega (arith, c .loop-test .left)))
 

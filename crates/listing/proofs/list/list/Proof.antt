@@ -11,67 +11,51 @@ use Rattle.listing.proofs.list.list.Lts as lts
 use Rattle.listing.proofs.entries.entries.Reads as entries-reads
 use Rattle.table.proofs.answers.check.Reads as check-reads
 
--- src/list.rt:11:9
 check-requires : tie.Need-check-requires
 check-requires c κs = search needs
 
--- src/list.rt:13:9
 returns : tie.Need-returns
 returns c = list-refused (known-below w32 (c .before .before .before .before .before .before .before .args .words .now) (c .before .before .before .before .before .shared-slice-known2 .given)) (c .before .before .check .ensures) (c .before .before .before .before .before .before .before .args .label .now) (c .before .before .before .before .before .before .before .args .list .now) (c .if1 .taken)
 
--- src/list.rt:15:16
 cast-rows : tie.Need-cast-rows
 cast-rows c = search needs
 
--- src/list.rt:16:19
 shared-slice-read-version : tie.Need-shared-slice-read-version
 shared-slice-read-version c = some-word (known-below w32 (c .before .before .before .before .before .before .before .before .before .args .words .now) (c .before .before .before .before .before .before .before .shared-slice-known2 .given)) (c .before .before .before .before .check .ensures) (c .before .before .before .before .before .before .before .before .before .args .label .now) (c .before .before .before .before .before .before .before .before .before .args .list .now) (c .before .before .if1 .left)
 
--- src/list.rt:19:13
 entries-requires : tie.Need-entries-requires
 entries-requires c κs = table-here (known-below w32 (c .before .before .before .before .before .before .before .before .before .before .before .args .words .now) (c .before .before .before .before .before .before .before .before .before .shared-slice-known2 .given)) (c .before .before .before .before .before .before .check .ensures) (c .before .before .before .before .before .before .before .before .before .before .before .args .label .now) (c .before .before .before .before .before .before .before .before .before .before .before .args .list .now) (c .before .before .before .before .if1 .left)
 
--- src/list.rt:23:19
 cast-t17 : tie.Need-cast-t17
 cast-t17 c = omega (arith, count-small (known-below w32 (c .before .before .before .before .before .before .before .before .before .before .before .before .before .before .args .words .now) (c .before .before .before .before .before .before .before .before .before .before .before .before .shared-slice-known2 .given)) (c .before .before .before .before .before .before .before .before .before .check .ensures) (c .before .before .before .before .before .before .before .before .before .before .before .before .before .before .args .label .now) (c .before .before .before .before .before .before .before .before .before .before .before .before .before .before .args .list .now) (c .before .before .before .before .before .before .before .if1 .left) (c .before .before .entries .ensures))
 
--- src/list.rt:20:9
 same-length : tie.Need-same-length
 same-length c = search needs
 
--- src/list.rt:20:9
 returns-2 : tie.Need-returns-2
 returns-2 c = list-stored-at-once (known-below w32 (c .before .before .before .before .before .before .before .before .before .before .before .before .before .before .args .words .now) (c .before .before .before .before .before .before .before .before .before .before .before .before .shared-slice-known2 .given)) (c .before .before .before .before .before .before .before .before .before .check .ensures) (c .before .before .before .before .before .before .before .before .before .before .before .before .before .before .args .label .now) (c .before .before .before .before .before .before .before .before .before .before .before .before .before .before .args .list .now) (c .before .before .before .before .before .before .before .if1 .left) (omega (arith, c .before .before .before .before .if2 .taken)) (c .before .before .entries .ensures)
 
--- src/list.rt:28:49
 slice-aggregate-entries : tie.Need-slice-aggregate-entries
 slice-aggregate-entries c = search needs
 
--- src/list.rt:28:9
 entries-requires-2 : tie.Need-entries-requires-2
 entries-requires-2 c κs = table-here (known-below w32 (c .before .before .before .before .before .before .before .before .before .before .before .args .words .now) (c .before .before .before .before .before .before .before .before .before .shared-slice-known2 .given)) (c .before .before .before .before .before .before .check .ensures) (c .before .before .before .before .before .before .before .before .before .before .before .args .label .now) (c .before .before .before .before .before .before .before .before .before .before .before .args .list .now) (c .before .before .before .before .if1 .left)
 
--- src/list.rt:32:21
 cast-t20 : tie.Need-cast-t20
 cast-t20 c = omega (arith, count-small (known-below w32 (c .before .before .before .before .before .before .before .before .before .before .before .before .before .before .args .words .now) (c .before .before .before .before .before .before .before .before .before .before .before .before .shared-slice-known2 .given)) (c .before .before .before .before .before .before .before .before .before .check .ensures) (c .before .before .before .before .before .before .before .before .before .before .before .before .before .before .args .label .now) (c .before .before .before .before .before .before .before .before .before .before .before .before .before .before .args .list .now) (c .before .before .before .before .before .before .before .if1 .left) (c .before .before .entries2 .ensures))
 
--- src/list.rt:30:9
 returns-3 : tie.Need-returns-3
 returns-3 c = list-short (known-below w32 (c .before .before .before .before .before .before .before .before .before .before .before .before .before .before .args .words .now) (c .before .before .before .before .before .before .before .before .before .before .before .before .shared-slice-known2 .given)) (c .before .before .before .before .before .before .before .before .before .check .ensures) (c .before .before .before .before .before .before .before .before .before .before .before .before .before .before .args .label .now) (c .before .before .before .before .before .before .before .before .before .before .before .before .before .before .args .list .now) (c .before .before .before .before .before .before .before .if1 .left) (c .before .before .entries2 .ensures) (c .if3 .taken)
 
--- src/list.rt:37:5
 entries-requires-3 : tie.Need-entries-requires-3
 entries-requires-3 c κs = table-here (known-below w32 (c .before .before .before .before .before .before .before .before .before .before .before .before .before .before .before .args .words .now) (c .before .before .before .before .before .before .before .before .before .before .before .before .before .shared-slice-known2 .given)) (c .before .before .before .before .before .before .before .before .before .before .check .ensures) (c .before .before .before .before .before .before .before .before .before .before .before .before .before .before .before .args .label .now) (c .before .before .before .before .before .before .before .before .before .before .before .before .before .before .before .args .list .now) (c .before .before .before .before .before .before .before .before .if1 .left)
 
--- src/list.rt:41:15
 cast-t13 : tie.Need-cast-t13
 cast-t13 c = search needs
 
--- src/list.rt:8:1
 same-length-2 : tie.Need-same-length-2
 same-length-2 c = search needs
 
--- src/list.rt:8:1
 returns-4 : tie.Need-returns-4
 returns-4 c = list-stored (known-below w32 (c .before .before .before .before .before .before .before .before .before .before .before .before .before .before .before .before .before .before .args .words .now) (c .before .before .before .before .before .before .before .before .before .before .before .before .before .before .before .before .shared-slice-known2 .given)) (c .before .before .before .before .before .before .before .before .before .before .before .before .before .check .ensures) (c .before .before .before .before .before .before .before .before .before .before .before .before .before .before .before .before .before .before .args .label .now) (c .before .before .before .before .before .before .before .before .before .before .before .before .before .before .before .before .before .before .args .list .now) (c .before .before .before .before .before .before .before .before .before .before .before .if1 .left) (c .before .before .before .before .before .before .entries2 .ensures) (λ short. omega (arith, short, c .before .before .before .before .if3 .left)) (c .before .before .entries3 .ensures)
 

@@ -11,23 +11,18 @@ use Rattle.places.proofs.behind.behind.Reads as reads
 use Rattle.places.proofs.behind.behind.Lts as lts
 use Rattle.places.proofs.behind.pass.Reads as pass-reads
 
--- src/behind.rt:54:9
 slice-aggregate-pass : tie.Need-slice-aggregate-pass
 slice-aggregate-pass c = search needs
 
--- src/behind.rt:56:9
 slice-aggregate-pass-2 : tie.Need-slice-aggregate-pass-2
 slice-aggregate-pass-2 c = search needs
 
--- src/behind.rt:57:9
 slice-aggregate-pass-3 : tie.Need-slice-aggregate-pass-3
 slice-aggregate-pass-3 c = search needs
 
--- src/behind.rt:53:9
 pass-requires : tie.Need-pass-requires
 pass-requires c κs = search needs
 
--- src/behind.rt:41:1
 returns : tie.Need-returns
 returns c = passed (layoutOf (c .before .before .before .before .before .before .before .args .part) (c .before .before .before .before .before .before .before .args .version)) (known-below w32 (c .before .before .before .before .before .before .before .args .words .now) (c .before .before .before .before .before .before .shared-slice-known .given)) refl (c .before .before .pass .ensures)
 

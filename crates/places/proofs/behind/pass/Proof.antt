@@ -15,163 +15,123 @@ use Rattle.parts.proofs.text.before_alternative.Reads as before-alternative-rea
 use Rattle.parts.proofs.text.font.Reads as font-reads
 use Rattle.parts.proofs.text.latex_if.Reads as latex-if-reads
 
--- src/behind.rt:34:46
 enum-told : tie.Need-enum-told
 enum-told c = search needs
 
--- src/behind.rt:34:17
 count-requires : tie.Need-count-requires
 count-requires c κs = search needs
 
--- src/behind.rt:37:20
 enum-known-part : tie.Need-enum-known-part
 enum-known-part c = search needs
 
--- src/behind.rt:37:31
 leaf-parts-requires : tie.Need-leaf-parts-requires
 leaf-parts-requires c κs = search needs
 
--- src/behind.rt:39:47
 enum-told-2 : tie.Need-enum-told-2
 enum-told-2 c = search needs
 
--- src/behind.rt:39:17
 flow-flag-requires : tie.Need-flow-flag-requires
 flow-flag-requires c κs = search needs
 
--- src/behind.rt:42:43
 enum-told-3 : tie.Need-enum-told-3
 enum-told-3 c = search needs
 
--- src/behind.rt:42:24
 paint-requires : tie.Need-paint-requires
 paint-requires c κs = search needs
 
--- src/behind.rt:43:54
 enum-told-4 : tie.Need-enum-told-4
 enum-told-4 c = search needs
 
--- src/behind.rt:43:29
 plain-paint-requires : tie.Need-plain-paint-requires
 plain-paint-requires c κs = search needs
 
--- src/behind.rt:44:41
 enum-told-5 : tie.Need-enum-told-5
 enum-told-5 c = search needs
 
--- src/behind.rt:44:23
 font-requires : tie.Need-font-requires
 font-requires c κs = search needs
 
--- src/behind.rt:45:46
 enum-told-6 : tie.Need-enum-told-6
 enum-told-6 c = search needs
 
--- src/behind.rt:45:24
 latex-if-requires : tie.Need-latex-if-requires
 latex-if-requires c κs = search needs
 
--- src/behind.rt:46:68
 enum-told-7 : tie.Need-enum-told-7
 enum-told-7 c = search needs
 
--- src/behind.rt:46:36
 before-alternative-requires : tie.Need-before-alternative-requires
 before-alternative-requires c κs = search needs
 
--- src/behind.rt:19:1
 same-length : tie.Need-same-length
 same-length c = search needs
 
--- src/behind.rt:19:1
 same-length-2 : tie.Need-same-length-2
 same-length-2 c = search needs
 
--- src/behind.rt:19:1
 returns : tie.Need-returns
 returns c = this-part (c .before .before .before .before .before .before .before .before .before .before .before .before .before .before .args .version) (c .before .before .before .before .before .before .before .before .enum-told .given .1) (field-laid (c .before .before .before .before .before .count .ensures))
 
--- src/behind.rt:19:1
 same-length-3 : tie.Need-same-length-3
 same-length-3 c = search needs
 
--- src/behind.rt:19:1
 same-length-4 : tie.Need-same-length-4
 same-length-4 c = search needs
 
--- src/behind.rt:19:1
 returns-2 : tie.Need-returns-2
 returns-2 c = this-part (c .before .before .before .before .before .before .before .before .before .before .before .before .before .before .args .version) (c .before .before .before .before .before .before .before .before .part .given .1) (c .before .before .before .before .leaf-parts .ensures)
 
--- src/behind.rt:19:1
 same-length-5 : tie.Need-same-length-5
 same-length-5 c = search needs
 
--- src/behind.rt:19:1
 same-length-6 : tie.Need-same-length-6
 same-length-6 c = search needs
 
--- src/behind.rt:19:1
 returns-3 : tie.Need-returns-3
 returns-3 c = this-part (c .before .before .before .before .before .before .before .before .before .before .before .before .before .before .args .version) (c .before .before .before .before .before .before .before .before .enum-told2 .given .1) (field-laid (c .before .before .before .before .before .flow-flag .ensures))
 
--- src/behind.rt:19:1
 same-length-7 : tie.Need-same-length-7
 same-length-7 c = search needs
 
--- src/behind.rt:19:1
 same-length-8 : tie.Need-same-length-8
 same-length-8 c = search needs
 
--- src/behind.rt:19:1
 returns-4 : tie.Need-returns-4
 returns-4 c = this-part (c .before .before .before .before .before .before .before .before .before .before .before .before .before .args .version) (c .before .before .before .before .before .before .before .enum-told3 .given .1) (c .before .before .before .before .paint .ensures)
 
--- src/behind.rt:19:1
 same-length-9 : tie.Need-same-length-9
 same-length-9 c = search needs
 
--- src/behind.rt:19:1
 same-length-10 : tie.Need-same-length-10
 same-length-10 c = search needs
 
--- src/behind.rt:19:1
 returns-5 : tie.Need-returns-5
 returns-5 c = this-part (c .before .before .before .before .before .before .before .before .before .before .before .before .before .args .version) (c .before .before .before .before .before .before .before .enum-told4 .given .1) (c .before .before .before .before .plain-paint .ensures)
 
--- src/behind.rt:19:1
 same-length-11 : tie.Need-same-length-11
 same-length-11 c = search needs
 
--- src/behind.rt:19:1
 same-length-12 : tie.Need-same-length-12
 same-length-12 c = search needs
 
--- src/behind.rt:19:1
 returns-6 : tie.Need-returns-6
 returns-6 c = this-part (c .before .before .before .before .before .before .before .before .before .before .before .before .before .args .version) (c .before .before .before .before .before .before .before .enum-told5 .given .1) (c .before .before .before .before .font .ensures)
 
--- src/behind.rt:19:1
 same-length-13 : tie.Need-same-length-13
 same-length-13 c = search needs
 
--- src/behind.rt:19:1
 same-length-14 : tie.Need-same-length-14
 same-length-14 c = search needs
 
--- src/behind.rt:19:1
 returns-7 : tie.Need-returns-7
 returns-7 c = this-part (c .before .before .before .before .before .before .before .before .before .before .before .before .before .args .version) (c .before .before .before .before .before .before .before .enum-told6 .given .1) (c .before .before .before .before .latex-if .ensures)
 
--- src/behind.rt:19:1
 same-length-15 : tie.Need-same-length-15
 same-length-15 c = search needs
 
--- src/behind.rt:19:1
 same-length-16 : tie.Need-same-length-16
 same-length-16 c = search needs
 
--- src/behind.rt:19:1
 returns-8 : tie.Need-returns-8
 returns-8 c = this-part (c .before .before .before .before .before .before .before .before .before .before .before .before .before .args .version) (c .before .before .before .before .before .before .before .enum-told7 .given .1) (c .before .before .before .before .before-alternative .ensures)
 

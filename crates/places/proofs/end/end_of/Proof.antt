@@ -8,55 +8,42 @@ use Rattle.places.proofs.end.end_of.Lts as lts
 use Rattle.places.proofs.behind.behind.Reads as behind-reads
 use Rattle.table.proofs.rows.letter_of.Reads as letter-of-reads
 
--- src/end.rt:12:25
 mul-kind : tie.Need-mul-kind
 mul-kind c = search needs
 
--- src/end.rt:12:16
 mul-kind-2 : tie.Need-mul-kind-2
 mul-kind-2 c = search needs
 
--- src/end.rt:12:16
 shared-slice-read-kind : tie.Need-shared-slice-read-kind
 shared-slice-read-kind c = search needs
 
--- src/end.rt:13:26
 mul-start : tie.Need-mul-start
 mul-start c = search needs
 
--- src/end.rt:13:26
 add-start : tie.Need-add-start
 add-start c = search needs
 
--- src/end.rt:13:17
 mul-start-2 : tie.Need-mul-start-2
 mul-start-2 c = search needs
 
--- src/end.rt:13:17
 shared-slice-read-start : tie.Need-shared-slice-read-start
 shared-slice-read-start c = search needs
 
--- src/end.rt:13:17
 cast-start : tie.Need-cast-start
 cast-start c = search needs
 
--- src/end.rt:15:9
 behind-requires : tie.Need-behind-requires
 behind-requires c κs = search needs
 
--- src/end.rt:15:9
 returns : tie.Need-returns
 returns c = λ o body. group-end (c .before .before .before .before .before .before .args .contents .now) (c .before .before .before .before .before .before .args .words .now) (c .before .before .before .before .before .before .args .version) (c .before .before .before .before .before .before .args .row) o body (c .before .if1 .taken) (c .behind .ensures .is)
 
--- src/end.rt:17:9
 letter-of-requires : tie.Need-letter-of-requires
 letter-of-requires c κs = search needs
 
--- src/end.rt:18:5
 behind-requires-2 : tie.Need-behind-requires-2
 behind-requires-2 c κs = search needs
 
--- src/end.rt:8:1
 returns-2 : tie.Need-returns-2
 returns-2 c = λ o body. leaf-end (c .before .before .before .before .before .before .before .args .contents .now) (c .before .before .before .before .before .before .before .args .words .now) (c .before .before .before .before .before .before .before .args .version) (c .before .before .before .before .before .before .before .args .row) o body (c .before .before .if1 .left) (c .before .letter-of .ensures .0) (c .behind2 .ensures .is)
 
