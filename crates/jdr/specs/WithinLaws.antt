@@ -19,7 +19,7 @@ use Rattle.drawing.specs.Drawing.{Drawing}
 use Rattle.drawing.specs.TableDrawing.{drawingOfTable}
 use Rattle.drawing.specs.Order.{entries}
 use Rattle.drawing.specs.Answers.{ReadResult, readResult, Reads, Output, writeOutput, Writes, listed, listFrom}
-use Rattle.questions.specs.Lists.{Lists}
+use Rattle.listing.specs.Lists.{Lists}
 use Rattle.laws.specs.AnswerLaws.{Accepted, read-accepts, read-gives, Writable, write-accepts, write-gives}
 use Rattle.laws.specs.CountLaws.{file-counts}
 use Rattle.jdr.specs.Within.{Within, FileWithin}

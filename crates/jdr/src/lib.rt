@@ -1,7 +1,7 @@
 // The calls of the library, for other programs: each with its contract, which decides its answer and all lent memory for every input. The numbers of
-// answers are 01's; the definitions are in crates/drawing/specs, and the contracts of list, paint and text around them in crates/questions/specs.
+// answers are 01's; the definitions are in crates/drawing/specs, and some contracts around them in crates/listing and crates/questions.
 ghost use Rattle.drawing.specs.Answers.{Reads, Checks, Writes};
-ghost use Rattle.questions.specs.Lists.{Lists};
+ghost use Rattle.listing.specs.Lists.{Lists};
 ghost use Rattle.questions.specs.PaintQuestion.{Paints};
 ghost use Rattle.questions.specs.TextQuestion.{Texts};
 ghost use mathlib.Core.Path.{_≡_};
@@ -41,7 +41,7 @@ pub fn write(contents: &[u32], bodies: &[u32], file: &mut [u8]) -> Answer
 pub fn list(contents: &[u32], bodies: &[u32], label: &[u16], entries: &mut [u32]) -> Answer
     ensures { λ r. ⌜ Lists (now (contents .entry)) (now (bodies .entry)) (now (label .entry)) (now (entries .entry)) r (now (entries .exit)) ⌝ }
 {
-    questions::list::list(contents, bodies, label, entries)
+    listing::list::list(contents, bodies, label, entries)
 }
 
 // The line, fill or text paint of a row's object: a plain paint, or a gradient of two with its integer. Refused with 16 where there is no such table, 6

@@ -1,20 +1,5 @@
--- What rows say of their objects, and what is found by them.
-pub mod WordLaws
-pub mod Places
-pub mod PlaceLaws
-pub mod RowBodies
-pub mod RowBodyLaws
-pub mod Parts
-pub mod PartLaws
-pub mod Rows
-pub mod Entries
-pub mod EntryLaws
-pub mod Lists
-pub mod CharLaws
-pub mod EndLaws
-pub mod LabelLaws
+-- What a paint or text question answers about a row.
 pub mod RowQuestions
-pub mod ListLaws
 pub mod PaintQuestion
 pub mod PaintLaws
 pub mod TextQuestion

@@ -12,8 +12,8 @@ use Rattle.drawing.specs.declared.Which.{Which}
 use Rattle.drawing.specs.Paint as P
 use Rattle.drawing.specs.Object.{Object}
 use Rattle.drawing.specs.Questions.{part, orRefusal, paintValue, paintPart, paintAnswer, paintGiven}
-use Rattle.questions.specs.RowBodies.{RowBody}
-use Rattle.questions.specs.Places.{Here}
+use Rattle.places.specs.RowBodies.{RowBody}
+use Rattle.places.specs.Places.{Here}
 
 -- The answer is `paintAnswer` (crates/drawing/specs/Questions.antt), for every two runs of words and every row; and what the enum's case says, the
 -- number, the form, the plain paints and a gradient's integer, is what `paintGiven` says of that.

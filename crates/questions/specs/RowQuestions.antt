@@ -14,11 +14,10 @@ use Rattle.drawing.specs.Order.{objectsOf}
 use Rattle.drawing.specs.Answers.{rowsOf, checkFrom, Checks}
 use Rattle.drawing.specs.Questions.{refusal, orRefusal, partAt, partIn}
 use Rattle.laws.specs.TableLaws.{drawing-of-table}
-use Rattle.questions.specs.RowBodies.{RowBody}
-use Rattle.questions.specs.RowBodyLaws.{row-object, no-row, row-body, version-word}
-use Rattle.questions.specs.Rows.{HasRow}
-use Rattle.questions.specs.Entries.{TableHere}
-use Rattle.questions.specs.EntryLaws.{row-here}
+use Rattle.places.specs.RowBodies.{RowBody}
+use Rattle.places.specs.RowBodyLaws.{row-object, no-row, version-word}
+use Rattle.places.specs.Rows.{TableHere, HasRow}
+use Rattle.places.specs.RowLaws.{checked-drawing, object-here, row-here}
 
 -- The row's object, by which the question is answered.
 pub record Asked (contents bodies : List ℕ) (row : ℕ) : Type 0 where
@@ -35,14 +34,6 @@ pub record Asked (contents bodies : List ℕ) (row : ℕ) : Type 0 where
 pub asked-part : {A : Type 0} (has : Drawing → Object → Option A) {c bs : List ℕ} {row : ℕ} → (asked : Asked c bs row)
     → partIn has (drawingOfTable c bs) row ≡ orRefusal 7 (has (asked .d) (asked .object))
 asked-part has {row = row} asked = ap (λ o. partIn has o row) (asked .is) ∙ ap (partAt (has (asked .d))) (asked .object-is)
-
--- A table that is checked with 0 has a drawing, and its rows are counted.
-pub checked-drawing : {c bs : List ℕ} {a : Answer} → Checks c bs a → a .number ≡ 0 → (d : Drawing) × ((drawingOfTable c bs ≡ some d) × (a .rows ≡ rowsOf d))
-checked-drawing {c} {bs} {a} checks good = by (drawingOfTable c bs) refl
-  where
-    by : (o : Option Drawing) → drawingOfTable c bs ≡ o → (d : Drawing) × ((drawingOfTable c bs ≡ some d) × (a .rows ≡ rowsOf d))
-    by none is = let z : _≡_ {A = ℕ} 0 16 = sym good ∙ ap (λ x. x .number) (checks .says ∙ ap checkFrom is) in absurd (omega arith)
-    by (some d) is = (d, (is, ap (λ x. x .rows) (checks .says ∙ ap checkFrom is)))
 
 module _ {c bs : List ℕ} {a : Answer} (checks : Checks c bs a) (row : ℕ) where
   pub no-table : {A : Type 0} (has : Drawing → Object → Option A) → (a .number ≡ 0 → ⊥) → partIn has (drawingOfTable c bs) row ≡ refusal 16
@@ -76,6 +67,6 @@ module _ {c bs : List ℕ} {a : Answer} (checks : Checks c bs a) (row : ℕ) whe
           object-is = row-object d row more;
           begun = subst (λ l. 0 < length l) (sym (is-table .bodies-are)) (omega arith);
           version-is = version-is;
-          body = subst (λ v. RowBody c bs v row o) (sym version-is) (row-body c bs d is-table row more);
+          body = object-here table row more;
           has = row-here table row more;
         }

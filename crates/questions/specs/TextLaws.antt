@@ -22,13 +22,13 @@ use Rattle.drawing.specs.Object.{path, text, bitmap, Object, leaf, group}
 use Rattle.drawing.specs.ObjectId.{textOf}
 use Rattle.drawing.specs.Table.{wordsOf, kindIn, startIn}
 use Rattle.drawing.specs.Questions.{orRefusal, leafPart, span, alternativeSpan, textValue}
-use Rattle.questions.specs.declared.Part.the-variants.{BeforeAlternative}
-use Rattle.questions.specs.RowBodies.{RowBody}
-use Rattle.questions.specs.WordLaws.{string-words}
-use Rattle.questions.specs.Places.{Here, Behind, Holds}
-use Rattle.questions.specs.PlaceLaws.{here-as, here-behind, first-word, here-first, here-next, here-later, next-ends}
-use Rattle.questions.specs.Parts.{layoutOf}
-use Rattle.questions.specs.EndLaws.{leaf-here}
+use Rattle.places.specs.declared.Part.the-variants.{BeforeAlternative}
+use Rattle.places.specs.RowBodies.{RowBody}
+use Rattle.places.specs.WordLaws.{string-words}
+use Rattle.places.specs.Places.{Here, Behind, Holds}
+use Rattle.places.specs.PlaceLaws.{here-as, here-behind, first-word, here-first, here-next, here-later, next-ends}
+use Rattle.places.specs.Parts.{layoutOf}
+use Rattle.places.specs.EndLaws.{leaf-here}
 use Rattle.questions.specs.TextQuestion.{noText, CharsRead, alternativeIn, AlternativeRead}
 
 -- ---- strings

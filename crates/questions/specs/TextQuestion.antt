@@ -13,8 +13,8 @@ use Rattle.drawing.specs.Object.{Object}
 use Rattle.drawing.specs.ObjectId.{textOf}
 use Rattle.drawing.specs.Table.{wordsOf, startIn}
 use Rattle.drawing.specs.Questions.{orRefusal, leafPart, span, noSpan, textValue, textAnswer}
-use Rattle.questions.specs.RowBodies.{RowBody}
-use Rattle.questions.specs.Places.{Here}
+use Rattle.places.specs.RowBodies.{RowBody}
+use Rattle.places.specs.Places.{Here}
 
 -- The answer is `textAnswer` (crates/drawing/specs/Questions.antt), for every two runs of words and every row.
 pub record Texts (contents bodies : List ℕ) (row : ℕ) (r : TextAnswer) : Type 0 where

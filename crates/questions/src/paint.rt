@@ -1,11 +1,11 @@
 // The paint question.
-use crate::Part;
 use crate::paint_words::paint_at;
-use crate::places::behind;
 use drawing::PaintAnswer;
 use drawing::Which;
+use places::Part;
+use places::behind::behind;
 use table::answers::check;
-ghost use Rattle.questions.specs.Rows.{HasRow};
+ghost use Rattle.places.specs.Rows.{HasRow};
 ghost use Rattle.questions.specs.PaintQuestion.{PaintOf, Paints};
 
 // A path begins with its line paint, and its fill paint stands behind that; a text's paint stands behind its font and its LaTeX fields.

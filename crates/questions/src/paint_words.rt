@@ -1,14 +1,14 @@
 // Paints, as they stand in the words of a table.
-use crate::Part;
-use crate::places::behind;
 use drawing::Paint;
 use drawing::PaintAnswer;
+use places::Part;
+use places::behind::behind;
 ghost use mathlib.Core.Path.{_≡_};
 ghost use Prim.Native.Nat.{_+_, _<_};
 ghost use lib.ListN.{length, getD};
 ghost use Rattle.drawing.specs.Paint as P;
 ghost use Rattle.drawing.specs.Questions.{float, plainValue};
-ghost use Rattle.questions.specs.Places.{Holds};
+ghost use Rattle.places.specs.Places.{Holds};
 ghost use Rattle.questions.specs.PaintQuestion.{Number, PlainHere, PaintRead, plainAt};
 
 // A component of a paint, so many words behind its letter.

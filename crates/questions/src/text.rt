@@ -1,8 +1,8 @@
 // The text question.
-use crate::Part;
-use crate::places::behind;
 use drawing::Span;
 use drawing::TextAnswer;
+use places::Part;
+use places::behind::behind;
 use table::answers::check;
 ghost use mathlib.Core.Path.{_≡_};
 ghost use Prim.Native.Nat.{_<_, _≤_};
@@ -10,8 +10,8 @@ ghost use lib.ListN.{length};
 ghost use Rattle.drawing.specs.Limits.{lengthLimit};
 ghost use Rattle.drawing.specs.Choices.{ifFlag};
 ghost use Rattle.drawing.specs.Text as T;
-ghost use Rattle.questions.specs.Rows.{HasRow};
-ghost use Rattle.questions.specs.Places.{Holds};
+ghost use Rattle.places.specs.Rows.{HasRow};
+ghost use Rattle.places.specs.Places.{Holds};
 ghost use Rattle.questions.specs.TextQuestion.{noText, CharsRead, AlternativeRead, TextOf, Texts};
 
 fn refused(number: u32) -> TextAnswer

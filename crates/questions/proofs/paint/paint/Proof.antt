@@ -14,27 +14,21 @@ use Rattle.questions.proofs.paint.paint.Lts as lts
 use Rattle.questions.proofs.paint.paint_of.Reads as paint-of-reads
 use Rattle.table.proofs.answers.check.Reads as check-reads
 
--- src/paint.rt:52:9
 check-requires : tie.Need-check-requires
 check-requires c κs = search needs
 
--- src/paint.rt:54:9
 returns : tie.Need-returns
 returns c = paints (sym (ap paintValue (no-table (c .before .before .check .ensures) (c .before .before .before .before .before .args .row) (λ d o. paintPart (c .before .before .before .before .before .args .which) o) (c .if1 .taken))))
 
--- src/paint.rt:57:9
 returns-2 : tie.Need-returns-2
 returns-2 c = paints (sym (ap paintValue (no-such-row (c .before .before .before .before .check .ensures) (c .before .before .before .before .before .before .before .args .row) (c .before .before .if1 .left) (λ d o. paintPart (c .before .before .before .before .before .before .before .args .which) o) (c .if2 .taken))))
 
--- src/paint.rt:59:19
 shared-slice-read-version : tie.Need-shared-slice-read-version
 shared-slice-read-version c = (asked (c .before .before .before .before .before .check .ensures) (c .before .before .before .before .before .before .before .before .args .row) (c .before .before .before .if1 .left) (known-below w32 (c .before .before .before .before .before .before .before .before .args .words .now) (c .before .before .before .before .before .before .shared-slice-known2 .given)) (omega (arith, c .before .if2 .left))) .begun
 
--- src/paint.rt:60:5
 paint-of-requires : tie.Need-paint-of-requires
 paint-of-requires c κs = (asked (c .before .before .before .before .before .check .ensures) (c .before .before .before .before .before .before .before .before .args .row) (c .before .before .before .if1 .left) (known-below w32 (c .before .before .before .before .before .before .before .before .args .words .now) (c .before .before .before .before .before .before .shared-slice-known2 .given)) (omega (arith, c .before .if2 .left))) .has
 
--- src/paint.rt:49:1
 returns-3 : tie.Need-returns-3
 returns-3 c = let it = (asked (c .before .before .before .before .before .before .check .ensures) (c .before .before .before .before .before .before .before .before .before .args .row) (c .before .before .before .before .if1 .left) (known-below w32 (c .before .before .before .before .before .before .before .before .before .args .words .now) (c .before .before .before .before .before .before .before .shared-slice-known2 .given)) (omega (arith, c .before .before .if2 .left))) in
     paints (c .paint-of .ensures (it .object) (it .body) ∙ sym (ap paintValue (asked-part (λ d o. paintPart (c .before .before .before .before .before .before .before .before .before .args .which) o) it)))

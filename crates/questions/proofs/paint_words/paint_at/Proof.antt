@@ -9,49 +9,38 @@ use Rattle.questions.proofs.paint_words.paint_at.Tie as tie
 use Rattle.questions.proofs.paint_words.paint_at.Reads as reads
 use Rattle.questions.proofs.paint_words.paint_at.Lts as lts
 use Rattle.questions.proofs.paint_words.plain_at.Reads as plain-at-reads
-use Rattle.questions.proofs.places.behind.Reads as behind-reads
+use Rattle.places.proofs.behind.behind.Reads as behind-reads
 
--- src/paint_words.rt:66:18
 mul-letter : tie.Need-mul-letter
 mul-letter c = search needs
 
--- src/paint_words.rt:66:18
 shared-slice-read-letter : tie.Need-shared-slice-read-letter
 shared-slice-read-letter c = paint-inside (c .before .before .args .version) (c .before .before .pre .here)
 
--- src/paint_words.rt:68:36
 add-behind : tie.Need-add-behind
 add-behind c = search needs
 
--- src/paint_words.rt:68:13
 behind-requires : tie.Need-behind-requires
 behind-requires c κs = (omega (arith, paint-inside (c .before .before .before .args .version) (c .before .before .before .pre .here)), c .before .before .before .pre .short)
 
--- src/paint_words.rt:69:13
 behind-requires-2 : tie.Need-behind-requires-2
 behind-requires-2 c κs = search needs
 
--- src/paint_words.rt:71:36
 add-plain-at : tie.Need-add-plain-at
 add-plain-at c = search needs
 
--- src/paint_words.rt:71:20
 plain-at-requires : tie.Need-plain-at-requires
 plain-at-requires c κs = start-is (linear-is (c .before .before .before .before .before .args .version) (c .before .before .before .before .before .pre .value) (c .before .before .before .before .before .pre .here) (c .before .before .if1 .taken)) .here
 
--- src/paint_words.rt:72:18
 plain-at-requires-2 : tie.Need-plain-at-requires-2
 plain-at-requires-2 c κs = end-is (linear-is (c .before .before .before .before .before .before .args .version) (c .before .before .before .before .before .before .pre .value) (c .before .before .before .before .before .before .pre .here) (c .before .before .before .if1 .taken)) (c .before .before .behind .ensures .is) .here
 
--- src/paint_words.rt:73:24
 mul-t17 : tie.Need-mul-t17
 mul-t17 c = search needs
 
--- src/paint_words.rt:73:24
 shared-slice-read-t19 : tie.Need-shared-slice-read-t19
 shared-slice-read-t19 c = last-is (linear-is (c .before .before .before .before .before .before .before .before .args .version) (c .before .before .before .before .before .before .before .before .pre .value) (c .before .before .before .before .before .before .before .before .pre .here) (c .before .before .before .before .before .if1 .taken)) (c .before .before .before .before .behind .ensures .is) (c .before .before .before .behind2 .ensures .is) .0
 
--- src/paint_words.rt:70:9
 returns : tie.Need-returns
 returns c = λ p here.
     let it = linear-is (c .before .before .before .before .before .before .before .before .args .version) p here (c .before .before .before .before .before .if1 .taken) in
@@ -61,39 +50,30 @@ returns c = λ p here.
     let same = ap (λ x. paintValue (part x)) (it .is) in
     cc
 
--- src/paint_words.rt:77:36
 add-behind-2 : tie.Need-add-behind-2
 add-behind-2 c = search needs
 
--- src/paint_words.rt:77:13
 behind-requires-3 : tie.Need-behind-requires-3
 behind-requires-3 c κs = (omega (arith, paint-inside (c .before .before .before .before .args .version) (c .before .before .before .before .pre .here)), c .before .before .before .before .pre .short)
 
--- src/paint_words.rt:78:13
 behind-requires-4 : tie.Need-behind-requires-4
 behind-requires-4 c κs = search needs
 
--- src/paint_words.rt:80:36
 add-plain-at-2 : tie.Need-add-plain-at-2
 add-plain-at-2 c = search needs
 
--- src/paint_words.rt:80:20
 plain-at-requires-3 : tie.Need-plain-at-requires-3
 plain-at-requires-3 c κs = start-is (radial-is (c .before .before .before .before .before .before .args .version) (c .before .before .before .before .before .before .pre .value) (c .before .before .before .before .before .before .pre .here) (c .before .before .if2 .taken)) .here
 
--- src/paint_words.rt:81:18
 plain-at-requires-4 : tie.Need-plain-at-requires-4
 plain-at-requires-4 c κs = end-is (radial-is (c .before .before .before .before .before .before .before .args .version) (c .before .before .before .before .before .before .before .pre .value) (c .before .before .before .before .before .before .before .pre .here) (c .before .before .before .if2 .taken)) (c .before .before .behind3 .ensures .is) .here
 
--- src/paint_words.rt:82:23
 mul-t24 : tie.Need-mul-t24
 mul-t24 c = search needs
 
--- src/paint_words.rt:82:23
 shared-slice-read-t26 : tie.Need-shared-slice-read-t26
 shared-slice-read-t26 c = last-is (radial-is (c .before .before .before .before .before .before .before .before .before .args .version) (c .before .before .before .before .before .before .before .before .before .pre .value) (c .before .before .before .before .before .before .before .before .before .pre .here) (c .before .before .before .before .before .if2 .taken)) (c .before .before .before .before .behind3 .ensures .is) (c .before .before .before .behind4 .ensures .is) .0
 
--- src/paint_words.rt:79:9
 returns-2 : tie.Need-returns-2
 returns-2 c = λ p here.
     let it = radial-is (c .before .before .before .before .before .before .before .before .before .args .version) p here (c .before .before .before .before .before .if2 .taken) in
@@ -103,11 +83,9 @@ returns-2 c = λ p here.
     let same = ap (λ x. paintValue (part x)) (it .is) in
     cc
 
--- src/paint_words.rt:85:24
 plain-at-requires-5 : tie.Need-plain-at-requires-5
 plain-at-requires-5 c κs = paint-is-plain (c .before .before .before .before .args .version) (c .before .before .before .before .pre .value) (c .before .before .before .before .pre .here) (c .before .if1 .left) (c .if2 .left) .1 .1 .here
 
--- src/paint_words.rt:62:1
 returns-3 : tie.Need-returns-3
 returns-3 c = λ p here.
     let it = paint-is-plain (c .before .before .before .before .before .args .version) p here (c .before .before .if1 .left) (c .before .if2 .left) in

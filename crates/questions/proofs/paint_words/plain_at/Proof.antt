@@ -10,91 +10,69 @@ use Rattle.questions.proofs.paint_words.plain_at.Reads as reads
 use Rattle.questions.proofs.paint_words.plain_at.Lts as lts
 use Rattle.questions.proofs.paint_words.float_at.Reads as float-at-reads
 
--- src/paint_words.rt:26:18
 mul-letter : tie.Need-mul-letter
 mul-letter c = search needs
 
--- src/paint_words.rt:26:18
 shared-slice-read-letter : tie.Need-shared-slice-read-letter
 shared-slice-read-letter c = search needs
 
--- src/paint_words.rt:29:18
 float-at-requires : tie.Need-float-at-requires
 float-at-requires c κs = let here = plain-here (c .before .before .before .args .words .now) (c .before .before .before .args .at) (c .if1 .taken) (c .before .before .before .pre) in (omega (arith, here .0), here .1 .0)
 
--- src/paint_words.rt:30:20
 float-at-requires-2 : tie.Need-float-at-requires-2
 float-at-requires-2 c κs = let here = plain-here (c .before .before .before .before .args .words .now) (c .before .before .before .before .args .at) (c .before .if1 .taken) (c .before .before .before .before .pre) in (omega (arith, here .0), here .1 .1 .0)
 
--- src/paint_words.rt:31:19
 float-at-requires-3 : tie.Need-float-at-requires-3
 float-at-requires-3 c κs = let here = plain-here (c .before .before .before .before .before .args .words .now) (c .before .before .before .before .before .args .at) (c .before .before .if1 .taken) (c .before .before .before .before .before .pre) in (omega (arith, here .0), here .1 .1 .1 .0)
 
--- src/paint_words.rt:32:20
 float-at-requires-4 : tie.Need-float-at-requires-4
 float-at-requires-4 c κs = let here = plain-here (c .before .before .before .before .before .before .args .words .now) (c .before .before .before .before .before .before .args .at) (c .before .before .before .if1 .taken) (c .before .before .before .before .before .before .pre) in (omega (arith, here .0), here .1 .1 .1 .1 .0)
 
--- src/paint_words.rt:28:9
 returns : tie.Need-returns
 returns c = rw (c .before .before .before .float-at .ensures, c .before .before .float-at2 .ensures, c .before .float-at3 .ensures, c .float-at4 .ensures) (sym (ap plainValue (plain-lettered (c .before .before .before .before .before .before .before .args .words .now) (c .before .before .before .before .before .before .before .args .at) (c .before .before .before .before .if1 .taken))))
 
--- src/paint_words.rt:37:19
 float-at-requires-5 : tie.Need-float-at-requires-5
 float-at-requires-5 c κs = let here = plain-here (c .before .before .before .before .args .words .now) (c .before .before .before .before .args .at) (c .if2 .taken) (c .before .before .before .before .pre) in (omega (arith, here .0), here .1 .0)
 
--- src/paint_words.rt:38:22
 float-at-requires-6 : tie.Need-float-at-requires-6
 float-at-requires-6 c κs = let here = plain-here (c .before .before .before .before .before .args .words .now) (c .before .before .before .before .before .args .at) (c .before .if2 .taken) (c .before .before .before .before .before .pre) in (omega (arith, here .0), here .1 .1 .0)
 
--- src/paint_words.rt:39:21
 float-at-requires-7 : tie.Need-float-at-requires-7
 float-at-requires-7 c κs = let here = plain-here (c .before .before .before .before .before .before .args .words .now) (c .before .before .before .before .before .before .args .at) (c .before .before .if2 .taken) (c .before .before .before .before .before .before .pre) in (omega (arith, here .0), here .1 .1 .1 .0)
 
--- src/paint_words.rt:40:20
 float-at-requires-8 : tie.Need-float-at-requires-8
 float-at-requires-8 c κs = let here = plain-here (c .before .before .before .before .before .before .before .args .words .now) (c .before .before .before .before .before .before .before .args .at) (c .before .before .before .if2 .taken) (c .before .before .before .before .before .before .before .pre) in (omega (arith, here .0), here .1 .1 .1 .1 .0)
 
--- src/paint_words.rt:41:20
 float-at-requires-9 : tie.Need-float-at-requires-9
 float-at-requires-9 c κs = let here = plain-here (c .before .before .before .before .before .before .before .before .args .words .now) (c .before .before .before .before .before .before .before .before .args .at) (c .before .before .before .before .if2 .taken) (c .before .before .before .before .before .before .before .before .pre) in (omega (arith, here .0), here .1 .1 .1 .1 .1 .0)
 
--- src/paint_words.rt:36:9
 returns-2 : tie.Need-returns-2
 returns-2 c = rw (c .before .before .before .before .float-at5 .ensures, c .before .before .before .float-at6 .ensures, c .before .before .float-at7 .ensures, c .before .float-at8 .ensures, c .float-at9 .ensures) (sym (ap plainValue (plain-lettered (c .before .before .before .before .before .before .before .before .before .args .words .now) (c .before .before .before .before .before .before .before .before .before .args .at) (c .before .before .before .before .before .if2 .taken))))
 
--- src/paint_words.rt:46:19
 float-at-requires-10 : tie.Need-float-at-requires-10
 float-at-requires-10 c κs = let here = plain-here (c .before .before .before .before .before .args .words .now) (c .before .before .before .before .before .args .at) (c .if3 .taken) (c .before .before .before .before .before .pre) in (omega (arith, here .0), here .1 .0)
 
--- src/paint_words.rt:47:20
 float-at-requires-11 : tie.Need-float-at-requires-11
 float-at-requires-11 c κs = let here = plain-here (c .before .before .before .before .before .before .args .words .now) (c .before .before .before .before .before .before .args .at) (c .before .if3 .taken) (c .before .before .before .before .before .before .pre) in (omega (arith, here .0), here .1 .1 .0)
 
--- src/paint_words.rt:45:9
 returns-3 : tie.Need-returns-3
 returns-3 c = rw (c .before .float-at10 .ensures, c .float-at11 .ensures) (sym (ap plainValue (plain-lettered (c .before .before .before .before .before .before .before .args .words .now) (c .before .before .before .before .before .before .before .args .at) (c .before .before .if3 .taken))))
 
--- src/paint_words.rt:52:18
 float-at-requires-12 : tie.Need-float-at-requires-12
 float-at-requires-12 c κs = let here = plain-here (c .before .before .before .before .before .before .args .words .now) (c .before .before .before .before .before .before .args .at) (c .if4 .taken) (c .before .before .before .before .before .before .pre) in (omega (arith, here .0), here .1 .0)
 
--- src/paint_words.rt:53:25
 float-at-requires-13 : tie.Need-float-at-requires-13
 float-at-requires-13 c κs = let here = plain-here (c .before .before .before .before .before .before .before .args .words .now) (c .before .before .before .before .before .before .before .args .at) (c .before .if4 .taken) (c .before .before .before .before .before .before .before .pre) in (omega (arith, here .0), here .1 .1 .0)
 
--- src/paint_words.rt:54:25
 float-at-requires-14 : tie.Need-float-at-requires-14
 float-at-requires-14 c κs = let here = plain-here (c .before .before .before .before .before .before .before .before .args .words .now) (c .before .before .before .before .before .before .before .before .args .at) (c .before .before .if4 .taken) (c .before .before .before .before .before .before .before .before .pre) in (omega (arith, here .0), here .1 .1 .1 .0)
 
--- src/paint_words.rt:55:20
 float-at-requires-15 : tie.Need-float-at-requires-15
 float-at-requires-15 c κs = let here = plain-here (c .before .before .before .before .before .before .before .before .before .args .words .now) (c .before .before .before .before .before .before .before .before .before .args .at) (c .before .before .before .if4 .taken) (c .before .before .before .before .before .before .before .before .before .pre) in (omega (arith, here .0), here .1 .1 .1 .1 .0)
 
--- src/paint_words.rt:51:9
 returns-4 : tie.Need-returns-4
 returns-4 c = rw (c .before .before .before .float-at12 .ensures, c .before .before .float-at13 .ensures, c .before .float-at14 .ensures, c .float-at15 .ensures) (sym (ap plainValue (plain-lettered (c .before .before .before .before .before .before .before .before .before .before .args .words .now) (c .before .before .before .before .before .before .before .before .before .before .args .at) (c .before .before .before .before .if4 .taken))))
 
--- src/paint_words.rt:22:1
 returns-5 : tie.Need-returns-5
 returns-5 c = sym (ap plainValue (plain-other (c .before .before .before .before .before .before .args .words .now) (c .before .before .before .before .before .before .args .at) (c .before .before .before .if1 .left) (c .before .before .if2 .left) (c .before .if3 .left) (c .if4 .left)))
 

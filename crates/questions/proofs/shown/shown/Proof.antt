@@ -7,11 +7,9 @@ use Rattle.questions.proofs.shown.shown.Tie as tie
 use Rattle.questions.proofs.shown.shown.Reads as reads
 use Rattle.questions.proofs.shown.shown.Lts as lts
 
--- src/shown.rt:11:9
 returns : tie.Need-returns
 returns c = simp (lt-ltb 0 (length (c .before .args .alternative .now)) (omega (arith, c .if1 .taken)))
 
--- src/shown.rt:7:1
 returns-2 : tie.Need-returns-2
 returns-2 c = simp (le-ltb 0 (length (c .before .args .alternative .now)) (omega (arith, c .if1 .left)))
 

@@ -6,34 +6,27 @@ use Rattle.questions.proofs.text.alternative_chars.Statement.{statement
 use Rattle.questions.proofs.text.alternative_chars.Tie as tie
 use Rattle.questions.proofs.text.alternative_chars.Reads as reads
 use Rattle.questions.proofs.text.alternative_chars.Lts as lts
-use Rattle.questions.proofs.places.behind.Reads as behind-reads
+use Rattle.places.proofs.behind.behind.Reads as behind-reads
 use Rattle.questions.proofs.text.chars_at.Reads as chars-at-reads
 
--- src/text.rt:49:8
 mul-if1 : tie.Need-mul-if1
 mul-if1 c = search needs
 
--- src/text.rt:49:8
 shared-slice-read-if1 : tie.Need-shared-slice-read-if1
 shared-slice-read-if1 c = latex-inside (c .before .before .pre .value) (c .before .before .pre .here)
 
--- src/text.rt:50:41
 add-behind : tie.Need-add-behind
 add-behind c = search needs
 
--- src/text.rt:50:13
 behind-requires : tie.Need-behind-requires
 behind-requires c κs = (omega (arith, latex-inside (c .before .before .before .pre .value) (c .before .before .before .pre .here)), c .before .before .before .pre .short)
 
--- src/text.rt:51:9
 chars-at-requires : tie.Need-chars-at-requires
 chars-at-requires c κs = (alternative-inside (c .before .if1 .taken) (c .behind .ensures .is) (c .before .before .before .before .pre .value) (c .before .before .before .before .pre .here), c .before .before .before .before .pre .short)
 
--- src/text.rt:51:9
 returns : tie.Need-returns
 returns c = alternative-read (c .before .before .if1 .taken) (c .before .behind .ensures .is) (c .chars-at .ensures)
 
--- src/text.rt:45:1
 returns-2 : tie.Need-returns-2
 returns-2 c = no-alternative (c .if1 .left)
 

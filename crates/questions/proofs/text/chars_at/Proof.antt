@@ -9,23 +9,18 @@ use Rattle.questions.proofs.text.chars_at.Tie as tie
 use Rattle.questions.proofs.text.chars_at.Reads as reads
 use Rattle.questions.proofs.text.chars_at.Lts as lts
 
--- src/text.rt:39:17
 add-t3 : tie.Need-add-t3
 add-t3 c = search needs
 
--- src/text.rt:39:16
 cast-t4 : tie.Need-cast-t4
 cast-t4 c = search needs
 
--- src/text.rt:40:17
 mul-t5 : tie.Need-mul-t5
 mul-t5 c = search needs
 
--- src/text.rt:40:17
 shared-slice-read-t7 : tie.Need-shared-slice-read-t7
 shared-slice-read-t7 c = search needs
 
--- src/text.rt:34:1
 returns : tie.Need-returns
 returns c = λ least s here. ap {B = Span} (λ k. record { start = c .before .args .at + 1; length = k }) (length-first least here .1)
 

@@ -17,35 +17,27 @@ use Rattle.questions.proofs.text.refused.Reads as refused-reads
 use Rattle.questions.proofs.text.text_of.Reads as text-of-reads
 use Rattle.table.proofs.answers.check.Reads as check-reads
 
--- src/text.rt:82:9
 check-requires : tie.Need-check-requires
 check-requires c κs = search needs
 
--- src/text.rt:84:9
 refused-requires : tie.Need-refused-requires
 refused-requires c κs = search needs
 
--- src/text.rt:84:9
 returns : tie.Need-returns
 returns c = record { says = c .refused .ensures ∙ sym (ap (textValue (startIn (c .before .before .before .before .before .before .args .contents .now) (c .before .before .before .before .before .before .args .row))) (no-table (c .before .before .before .check .ensures) (c .before .before .before .before .before .before .args .row) (λ d o. Option·map (λ t. (d .version, t)) (leafPart textOf o)) (c .before .if1 .taken))) }
 
--- src/text.rt:87:9
 refused-requires-2 : tie.Need-refused-requires-2
 refused-requires-2 c κs = search needs
 
--- src/text.rt:87:9
 returns-2 : tie.Need-returns-2
 returns-2 c = record { says = c .refused2 .ensures ∙ sym (ap (textValue (startIn (c .before .before .before .before .before .before .before .before .args .contents .now) (c .before .before .before .before .before .before .before .before .args .row))) (no-such-row (c .before .before .before .before .before .check .ensures) (c .before .before .before .before .before .before .before .before .args .row) (c .before .before .before .if1 .left) (λ d o. Option·map (λ t. (d .version, t)) (leafPart textOf o)) (c .before .if2 .taken))) }
 
--- src/text.rt:89:19
 shared-slice-read-version : tie.Need-shared-slice-read-version
 shared-slice-read-version c = (asked (c .before .before .before .before .before .check .ensures) (c .before .before .before .before .before .before .before .before .args .row) (c .before .before .before .if1 .left) (known-below w32 (c .before .before .before .before .before .before .before .before .args .words .now) (c .before .before .before .before .before .before .shared-slice-known2 .given)) (omega (arith, c .before .if2 .left))) .begun
 
--- src/text.rt:90:5
 text-of-requires : tie.Need-text-of-requires
 text-of-requires c κs = (asked (c .before .before .before .before .before .check .ensures) (c .before .before .before .before .before .before .before .before .args .row) (c .before .before .before .if1 .left) (known-below w32 (c .before .before .before .before .before .before .before .before .args .words .now) (c .before .before .before .before .before .before .shared-slice-known2 .given)) (omega (arith, c .before .if2 .left))) .has
 
--- src/text.rt:79:1
 returns-3 : tie.Need-returns-3
 returns-3 c = let it = (asked (c .before .before .before .before .before .before .check .ensures) (c .before .before .before .before .before .before .before .before .before .args .row) (c .before .before .before .before .if1 .left) (known-below w32 (c .before .before .before .before .before .before .before .before .before .args .words .now) (c .before .before .before .before .before .before .before .shared-slice-known2 .given)) (omega (arith, c .before .before .if2 .left))) in
     let value = textValue (startIn (c .before .before .before .before .before .before .before .before .before .args .contents .now) (c .before .before .before .before .before .before .before .before .before .args .row)) in

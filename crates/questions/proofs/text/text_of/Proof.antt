@@ -6,72 +6,56 @@ use Rattle.questions.proofs.text.text_of.Statement.{statement}
 use Rattle.questions.proofs.text.text_of.Tie as tie
 use Rattle.questions.proofs.text.text_of.Reads as reads
 use Rattle.questions.proofs.text.text_of.Lts as lts
-use Rattle.questions.proofs.places.behind.Reads as behind-reads
+use Rattle.places.proofs.behind.behind.Reads as behind-reads
 use Rattle.questions.proofs.text.alternative_chars.Reads as alternative-chars-reads
 use Rattle.questions.proofs.text.chars_at.Reads as chars-at-reads
 use Rattle.questions.proofs.text.refused.Reads as refused-reads
 
--- src/text.rt:64:25
 mul-kind : tie.Need-mul-kind
 mul-kind c = search needs
 
--- src/text.rt:64:16
 mul-kind-2 : tie.Need-mul-kind-2
 mul-kind-2 c = search needs
 
--- src/text.rt:64:16
 shared-slice-read-kind : tie.Need-shared-slice-read-kind
 shared-slice-read-kind c = search needs
 
--- src/text.rt:65:26
 mul-start : tie.Need-mul-start
 mul-start c = search needs
 
--- src/text.rt:65:26
 add-start : tie.Need-add-start
 add-start c = search needs
 
--- src/text.rt:65:17
 mul-start-2 : tie.Need-mul-start-2
 mul-start-2 c = search needs
 
--- src/text.rt:65:17
 shared-slice-read-start : tie.Need-shared-slice-read-start
 shared-slice-read-start c = search needs
 
--- src/text.rt:65:17
 cast-start : tie.Need-cast-start
 cast-start c = search needs
 
--- src/text.rt:67:9
 refused-requires : tie.Need-refused-requires
 refused-requires c κs = search needs
 
--- src/text.rt:67:9
 returns : tie.Need-returns
 returns c = λ o row. c .refused .ensures ∙ no-text-answered (c .before .before .before .before .before .before .args .contents .now) (c .before .before .before .before .before .before .args .words .now) (c .before .before .before .before .before .before .args .version) (c .before .before .before .before .before .before .args .row) o row (c .before .if1 .taken)
 
--- src/text.rt:69:9
 behind-requires : tie.Need-behind-requires
 behind-requires c κs = search needs
 
--- src/text.rt:70:9
 behind-requires-2 : tie.Need-behind-requires-2
 behind-requires-2 c κs = search needs
 
--- src/text.rt:71:9
 behind-requires-3 : tie.Need-behind-requires-3
 behind-requires-3 c κs = search needs
 
--- src/text.rt:74:22
 alternative-chars-requires : tie.Need-alternative-chars-requires
 alternative-chars-requires c κs = latex-holds (c .before .before .before .before .before .before .before .before .args .contents .now) (c .before .before .before .before .before .before .before .before .args .words .now) (c .before .before .before .before .before .before .before .before .args .version) (c .before .before .before .before .before .before .before .before .args .row) (c .before .before .before .before .before .before .before .before .pre .object) (c .before .before .before .before .before .before .before .before .pre .body) (c .before .before .before .if1 .left) (c .before .before .behind .ensures .is) (c .before .before .before .before .before .before .before .before .pre .short)
 
--- src/text.rt:75:15
 chars-at-requires : tie.Need-chars-at-requires
 chars-at-requires c κs = (chars-inside (c .before .before .before .before .before .before .before .before .before .args .contents .now) (c .before .before .before .before .before .before .before .before .before .args .words .now) (c .before .before .before .before .before .before .before .before .before .args .version) (c .before .before .before .before .before .before .before .before .before .args .row) (c .before .before .before .before .before .before .before .before .before .pre .object) (c .before .before .before .before .before .before .before .before .before .pre .body) (c .before .before .before .before .if1 .left) (c .before .before .before .behind .ensures .is) (c .before .before .behind2 .ensures .is) (c .before .behind3 .ensures .is), c .before .before .before .before .before .before .before .before .before .pre .short)
 
--- src/text.rt:60:1
 returns-2 : tie.Need-returns-2
 returns-2 c = λ o row. text-answered (c .before .before .before .before .before .before .before .before .before .before .args .contents .now) (c .before .before .before .before .before .before .before .before .before .before .args .words .now) (c .before .before .before .before .before .before .before .before .before .before .args .version) (c .before .before .before .before .before .before .before .before .before .before .args .row) o row (c .before .before .before .before .before .if1 .left) (c .before .before .before .before .behind .ensures .is) (c .before .before .before .behind2 .ensures .is) (c .before .before .behind3 .ensures .is) (c .before .alternative-chars .ensures) (c .chars-at .ensures)
 

@@ -1,0 +1,120 @@
+-- `listing::label::is_labelled` meets its contract.
+use Prim.Native.Nat.{_+_, _-_, _*_}
+use lib.ListN.{length, getD}
+use native.Mathlib.Omega.{arith}
+use mathlib.Core.Path.{sym, _∙_}
+use Rattle.places.specs.EndLaws.{described, some-description}
+use Rattle.listing.specs.LabelLaws.{label-early, too-long, other-number, other-chars, told-by-place}
+use borrow.Author.Needs.{needs}
+use Rattle.listing.proofs.label.is_labelled.Statement.{statement}
+use Rattle.listing.proofs.label.is_labelled.Tie as tie
+use Rattle.listing.proofs.label.is_labelled.Reads as reads
+use Rattle.listing.proofs.label.is_labelled.Lts as lts
+use Rattle.listing.proofs.label.same_chars.Reads as same-chars-reads
+use Rattle.places.proofs.behind.behind.Reads as behind-reads
+use Rattle.places.proofs.end.end_of.Reads as end-of-reads
+
+returns : tie.Need-returns
+returns c = λ o body. label-early (c .before .before .before .before .args .contents .now) (c .before .before .before .before .args .words .now) (c .before .before .before .before .args .version) (c .before .before .before .before .args .row) (c .before .before .before .before .args .label .now) (c .if1 .taken) o body
+
+mul-start : tie.Need-mul-start
+mul-start c = search needs
+
+add-start : tie.Need-add-start
+add-start c = search needs
+
+mul-start-2 : tie.Need-mul-start-2
+mul-start-2 c = search needs
+
+shared-slice-read-start : tie.Need-shared-slice-read-start
+shared-slice-read-start c = search needs
+
+cast-start : tie.Need-cast-start
+cast-start c = search needs
+
+mul-size : tie.Need-mul-size
+mul-size c = search needs
+
+add-size : tie.Need-add-size
+add-size c = search needs
+
+mul-size-2 : tie.Need-mul-size-2
+mul-size-2 c = search needs
+
+shared-slice-read-size : tie.Need-shared-slice-read-size
+shared-slice-read-size c = search needs
+
+cast-size : tie.Need-cast-size
+cast-size c = search needs
+
+returns-2 : tie.Need-returns-2
+returns-2 c = λ o body. too-long (c .before .before .before .before .before .before .before .args .contents .now) (c .before .before .before .before .before .before .before .args .words .now) (c .before .before .before .before .before .before .before .args .version) (c .before .before .before .before .before .before .before .args .row) (c .before .before .before .before .before .before .before .args .label .now) o (some-description (c .before .before .before .before .before .before .before .args .contents .now) (c .before .before .before .before .before .before .before .args .words .now) (c .before .before .before .before .before .before .before .args .version) (c .before .before .before .before .before .before .before .args .row) (omega (arith, c .before .before .before .if1 .left)) o body .1) (omega (arith, body .size-is, c .if2 .taken))
+
+add-from : tie.Need-add-from
+add-from c = search needs
+
+sub-from : tie.Need-sub-from
+sub-from c = search needs
+
+sub-if3 : tie.Need-sub-if3
+sub-if3 c = search needs
+
+mul-if3 : tie.Need-mul-if3
+mul-if3 c = search needs
+
+shared-slice-read-if3 : tie.Need-shared-slice-read-if3
+shared-slice-read-if3 c = search needs
+
+cast-if3 : tie.Need-cast-if3
+cast-if3 c = let fit = c .shared-slice-known6 .given ((getD (c .before .before .before .before .before .before .before .before .args .contents .now) (4 * c .before .before .before .before .before .before .before .before .args .row + 2) 0 + getD (c .before .before .before .before .before .before .before .before .args .contents .now) (4 * c .before .before .before .before .before .before .before .before .args .row + 3) 0 - length (c .before .before .before .before .before .before .before .before .args .label .now)) - 1) in omega (arith, fit)
+
+returns-3 : tie.Need-returns-3
+returns-3 c = λ o body. other-number (c .before .before .before .before .before .before .before .before .before .args .contents .now) (c .before .before .before .before .before .before .before .before .before .args .words .now) (c .before .before .before .before .before .before .before .before .before .args .version) (c .before .before .before .before .before .before .before .before .before .args .row) (c .before .before .before .before .before .before .before .before .before .args .label .now) o (some-description (c .before .before .before .before .before .before .before .before .before .args .contents .now) (c .before .before .before .before .before .before .before .before .before .args .words .now) (c .before .before .before .before .before .before .before .before .before .args .version) (c .before .before .before .before .before .before .before .before .before .args .row) (omega (arith, c .before .before .before .before .before .if1 .left)) o body .1) (getD (c .before .before .before .before .before .before .before .before .before .args .contents .now) (4 * c .before .before .before .before .before .before .before .before .before .args .row + 2) 0 + getD (c .before .before .before .before .before .before .before .before .before .args .contents .now) (4 * c .before .before .before .before .before .before .before .before .before .args .row + 3) 0 - length (c .before .before .before .before .before .before .before .before .before .args .label .now)) (omega (arith, body .size-is, c .before .before .if2 .left)) (c .if3 .taken)
+
+same-chars-requires : tie.Need-same-chars-requires
+same-chars-requires c κs = search needs
+
+end-of-requires : tie.Need-end-of-requires
+end-of-requires c κs = search needs
+
+behind-requires : tie.Need-behind-requires
+behind-requires c κs = let e = c .end-of .ensures (c .before .before .before .before .before .before .before .before .before .before .before .before .pre .object) (c .before .before .before .before .before .before .before .before .before .before .before .before .pre .body) in (e .here .stands .within, c .before .before .before .before .before .before .before .before .before .before .before .before .pre .short)
+
+add-result : tie.Need-add-result
+add-result c = search needs
+
+returns-4 : tie.Need-returns-4
+returns-4 c = λ o body. told-by-place (c .before .before .before .before .before .before .before .before .before .before .before .before .before .args .contents .now) (c .before .before .before .before .before .before .before .before .before .before .before .before .before .args .words .now) (c .before .before .before .before .before .before .before .before .before .before .before .before .before .args .version) (c .before .before .before .before .before .before .before .before .before .before .before .before .before .args .row) (c .before .before .before .before .before .before .before .before .before .before .before .before .before .args .label .now) o (described (c .before .before .before .before .before .before .before .before .before .before .before .before .before .args .contents .now) (c .before .before .before .before .before .before .before .before .before .before .before .before .before .args .words .now) (c .before .before .before .before .before .before .before .before .before .before .before .before .before .args .version) (c .before .before .before .before .before .before .before .before .before .before .before .before .before .args .row) (omega (arith, c .before .before .before .before .before .before .before .before .before .if1 .left)) o (c .before .end-of .ensures o body) (c .behind .ensures .is)) (getD (c .before .before .before .before .before .before .before .before .before .before .before .before .before .args .contents .now) (4 * c .before .before .before .before .before .before .before .before .before .before .before .before .before .args .row + 2) 0 + getD (c .before .before .before .before .before .before .before .before .before .before .before .before .before .args .contents .now) (4 * c .before .before .before .before .before .before .before .before .before .before .before .before .before .args .row + 3) 0 - length (c .before .before .before .before .before .before .before .before .before .before .before .before .before .args .label .now)) (omega (arith, body .size-is, c .before .before .before .before .before .before .if2 .left)) (sym (c .before .before .before .same-chars .ensures) ∙ c .before .before .if4 .taken)
+
+returns-5 : tie.Need-returns-5
+returns-5 c = λ o body. other-chars (c .before .before .before .before .before .before .before .before .before .before .before .args .contents .now) (c .before .before .before .before .before .before .before .before .before .before .before .args .words .now) (c .before .before .before .before .before .before .before .before .before .before .before .args .version) (c .before .before .before .before .before .before .before .before .before .before .before .args .row) (c .before .before .before .before .before .before .before .before .before .before .before .args .label .now) o (some-description (c .before .before .before .before .before .before .before .before .before .before .before .args .contents .now) (c .before .before .before .before .before .before .before .before .before .before .before .args .words .now) (c .before .before .before .before .before .before .before .before .before .before .before .args .version) (c .before .before .before .before .before .before .before .before .before .before .before .args .row) (omega (arith, c .before .before .before .before .before .before .before .if1 .left)) o body .1) (getD (c .before .before .before .before .before .before .before .before .before .before .before .args .contents .now) (4 * c .before .before .before .before .before .before .before .before .before .before .before .args .row + 2) 0 + getD (c .before .before .before .before .before .before .before .before .before .before .before .args .contents .now) (4 * c .before .before .before .before .before .before .before .before .before .before .before .args .row + 3) 0 - length (c .before .before .before .before .before .before .before .before .before .before .before .args .label .now)) (omega (arith, body .size-is, c .before .before .before .before .if2 .left)) (sym (c .before .same-chars .ensures) ∙ c .if4 .left)
+
+pub is-labelled-spec : {M : Type 1} → statement M
+is-labelled-spec =
+    tie.close
+    (tie.spec
+    returns
+    mul-start
+    add-start
+    mul-start-2
+    shared-slice-read-start
+    cast-start
+    mul-size
+    add-size
+    mul-size-2
+    shared-slice-read-size
+    cast-size
+    returns-2
+    add-from
+    sub-from
+    sub-if3
+    mul-if3
+    shared-slice-read-if3
+    cast-if3
+    returns-3
+    same-chars-requires
+    end-of-requires
+    behind-requires
+    add-result
+    returns-4
+    returns-5)

@@ -1,0 +1,181 @@
+-- `places::behind::pass` meets its contract.
+use Rattle.places.specs.PartLaws.{this-part}
+use Rattle.passes.specs.LayoutLaws.{field-laid}
+use borrow.Author.Needs.{needs}
+use Rattle.places.proofs.behind.pass.Statement.{statement}
+use Rattle.places.proofs.behind.pass.Tie as tie
+use Rattle.places.proofs.behind.pass.Reads as reads
+use Rattle.places.proofs.behind.pass.Lts as lts
+use Rattle.kinds.proofs.numbers.count.Reads as count-reads
+use Rattle.kinds.proofs.numbers.flow_flag.Reads as flow-flag-reads
+use Rattle.leaves.proofs.object.leaf_parts.Reads as leaf-parts-reads
+use Rattle.styles.proofs.paint.paint.Reads as paint-reads
+use Rattle.styles.proofs.paint.plain_paint.Reads as plain-paint-reads
+use Rattle.leaves.proofs.text.before_alternative.Reads as before-alternative-reads
+use Rattle.leaves.proofs.text.font.Reads as font-reads
+use Rattle.leaves.proofs.text.latex_if.Reads as latex-if-reads
+
+enum-told : tie.Need-enum-told
+enum-told c = search needs
+
+count-requires : tie.Need-count-requires
+count-requires c κs = search needs
+
+enum-known-part : tie.Need-enum-known-part
+enum-known-part c = search needs
+
+leaf-parts-requires : tie.Need-leaf-parts-requires
+leaf-parts-requires c κs = search needs
+
+enum-told-2 : tie.Need-enum-told-2
+enum-told-2 c = search needs
+
+flow-flag-requires : tie.Need-flow-flag-requires
+flow-flag-requires c κs = search needs
+
+enum-told-3 : tie.Need-enum-told-3
+enum-told-3 c = search needs
+
+paint-requires : tie.Need-paint-requires
+paint-requires c κs = search needs
+
+enum-told-4 : tie.Need-enum-told-4
+enum-told-4 c = search needs
+
+plain-paint-requires : tie.Need-plain-paint-requires
+plain-paint-requires c κs = search needs
+
+enum-told-5 : tie.Need-enum-told-5
+enum-told-5 c = search needs
+
+font-requires : tie.Need-font-requires
+font-requires c κs = search needs
+
+enum-told-6 : tie.Need-enum-told-6
+enum-told-6 c = search needs
+
+latex-if-requires : tie.Need-latex-if-requires
+latex-if-requires c κs = search needs
+
+enum-told-7 : tie.Need-enum-told-7
+enum-told-7 c = search needs
+
+before-alternative-requires : tie.Need-before-alternative-requires
+before-alternative-requires c κs = search needs
+
+same-length : tie.Need-same-length
+same-length c = search needs
+
+same-length-2 : tie.Need-same-length-2
+same-length-2 c = search needs
+
+returns : tie.Need-returns
+returns c = this-part (c .before .before .before .before .before .before .before .before .before .before .before .before .before .before .args .version) (c .before .before .before .before .before .before .before .before .enum-told .given .1) (field-laid (c .before .before .before .before .before .count .ensures))
+
+same-length-3 : tie.Need-same-length-3
+same-length-3 c = search needs
+
+same-length-4 : tie.Need-same-length-4
+same-length-4 c = search needs
+
+returns-2 : tie.Need-returns-2
+returns-2 c = this-part (c .before .before .before .before .before .before .before .before .before .before .before .before .before .before .args .version) (c .before .before .before .before .before .before .before .before .part .given .1) (c .before .before .before .before .leaf-parts .ensures)
+
+same-length-5 : tie.Need-same-length-5
+same-length-5 c = search needs
+
+same-length-6 : tie.Need-same-length-6
+same-length-6 c = search needs
+
+returns-3 : tie.Need-returns-3
+returns-3 c = this-part (c .before .before .before .before .before .before .before .before .before .before .before .before .before .before .args .version) (c .before .before .before .before .before .before .before .before .enum-told2 .given .1) (field-laid (c .before .before .before .before .before .flow-flag .ensures))
+
+same-length-7 : tie.Need-same-length-7
+same-length-7 c = search needs
+
+same-length-8 : tie.Need-same-length-8
+same-length-8 c = search needs
+
+returns-4 : tie.Need-returns-4
+returns-4 c = this-part (c .before .before .before .before .before .before .before .before .before .before .before .before .before .args .version) (c .before .before .before .before .before .before .before .enum-told3 .given .1) (c .before .before .before .before .paint .ensures)
+
+same-length-9 : tie.Need-same-length-9
+same-length-9 c = search needs
+
+same-length-10 : tie.Need-same-length-10
+same-length-10 c = search needs
+
+returns-5 : tie.Need-returns-5
+returns-5 c = this-part (c .before .before .before .before .before .before .before .before .before .before .before .before .before .args .version) (c .before .before .before .before .before .before .before .enum-told4 .given .1) (c .before .before .before .before .plain-paint .ensures)
+
+same-length-11 : tie.Need-same-length-11
+same-length-11 c = search needs
+
+same-length-12 : tie.Need-same-length-12
+same-length-12 c = search needs
+
+returns-6 : tie.Need-returns-6
+returns-6 c = this-part (c .before .before .before .before .before .before .before .before .before .before .before .before .before .args .version) (c .before .before .before .before .before .before .before .enum-told5 .given .1) (c .before .before .before .before .font .ensures)
+
+same-length-13 : tie.Need-same-length-13
+same-length-13 c = search needs
+
+same-length-14 : tie.Need-same-length-14
+same-length-14 c = search needs
+
+returns-7 : tie.Need-returns-7
+returns-7 c = this-part (c .before .before .before .before .before .before .before .before .before .before .before .before .before .args .version) (c .before .before .before .before .before .before .before .enum-told6 .given .1) (c .before .before .before .before .latex-if .ensures)
+
+same-length-15 : tie.Need-same-length-15
+same-length-15 c = search needs
+
+same-length-16 : tie.Need-same-length-16
+same-length-16 c = search needs
+
+returns-8 : tie.Need-returns-8
+returns-8 c = this-part (c .before .before .before .before .before .before .before .before .before .before .before .before .before .args .version) (c .before .before .before .before .before .before .before .enum-told7 .given .1) (c .before .before .before .before .before-alternative .ensures)
+
+pub pass-spec : {M : Type 1} → statement M
+pass-spec =
+    tie.close
+    (tie.spec
+    enum-told
+    count-requires
+    enum-known-part
+    leaf-parts-requires
+    enum-told-2
+    flow-flag-requires
+    enum-told-3
+    paint-requires
+    enum-told-4
+    plain-paint-requires
+    enum-told-5
+    font-requires
+    enum-told-6
+    latex-if-requires
+    enum-told-7
+    before-alternative-requires
+    same-length
+    same-length-2
+    returns
+    same-length-3
+    same-length-4
+    returns-2
+    same-length-5
+    same-length-6
+    returns-3
+    same-length-7
+    same-length-8
+    returns-4
+    same-length-9
+    same-length-10
+    returns-5
+    same-length-11
+    same-length-12
+    returns-6
+    same-length-13
+    same-length-14
+    returns-7
+    same-length-15
+    same-length-16
+    returns-8)

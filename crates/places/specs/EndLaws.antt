@@ -1,0 +1,89 @@
+-- Where a leaf's fields stand, and an object's end: behind a group's count, or behind a leaf's other fields.
+use mathlib.Core.Path.{_≡_, refl, sym, ap, subst, _∙_}
+use Prim.Native.Nat.{ℕ, _+_, _≤_}
+use native.Mathlib.Omega.{arith}
+use mathlib.Core.List.{List, _++_}
+use lib.ListN.{length, length-append}
+use Rattle.format.specs.Layout.{field, _&_}
+use Rattle.format.specs.Alternative.{told}
+use Rattle.drawing.specs.Fields.{flowFlag, memberCount}
+use Rattle.drawing.specs.String.{String, string}
+use Rattle.drawing.specs.Object.{Leaf, path, text, bitmap, Object, leaf, group, Objects, listOf}
+use Rattle.drawing.specs.ObjectId.{leafLetter}
+use Rattle.drawing.specs.LeafLayout.{pathCase, otherCases, leafBody, objectEnd}
+use Rattle.drawing.specs.Table.{wordsOf, leafKind, groupOwn, kindIn, startIn}
+use Rattle.drawing.specs.TableDrawing.{letterOf}
+use Rattle.drawing.specs.Order.{descriptionOf}
+use Rattle.places.specs.RowBodies.{ownWords, RowBody}
+use Rattle.places.specs.WordLaws.{pair-words, late-end}
+use Rattle.places.specs.Places.{Here, Behind}
+use Rattle.places.specs.PlaceLaws.{here-as, here-behind, here-first, here-next, here-later, next-ends}
+use Rattle.places.specs.Rows.{EndsAt, Describes}
+
+letter-of-leaf : (l : Leaf) → letterOf (leafKind l) ≡ leafLetter l
+letter-of-leaf (path x) = refl
+letter-of-leaf (text x) = refl
+letter-of-leaf (bitmap x) = refl
+
+leaf-no-group : (l : Leaf) → leafKind l ≡ 1 → ⊥
+leaf-no-group (path x) e = omega arith
+leaf-no-group (text x) e = omega arith
+leaf-no-group (bitmap x) e = omega arith
+
+-- An object's own words before its end.
+abbrev pub frontWords : ℕ → Object → List ℕ
+frontWords v (leaf l d) = wordsOf (told (pathCase v) (otherCases v) (leafLetter l)) l
+frontWords v (group os d) = wordsOf (field memberCount) (length (listOf os))
+
+pub front-words : (v : ℕ) (o : Object) → ownWords v o ≡ frontWords v o ++ wordsOf (objectEnd v) (descriptionOf o)
+front-words v (leaf l d) = pair-words (told (pathCase v) (otherCases v) (leafLetter l)) (objectEnd v) l d
+front-words v (group os d) = pair-words (field memberCount) (objectEnd v) (length (listOf os)) d
+
+module _ (c bs : List ℕ) (v r : ℕ) where
+  -- An object's own fields stand where its row says.
+  body-here : (l : Leaf) (d : String) → RowBody c bs v r (leaf l d) → Here (leafBody v (leafLetter l)) bs (startIn c r) (l, d)
+  body-here l d row = record { good = row .good; rest = row .rest; stands = record { within = omega (arith, row .inside); words-are = row .words-are } }
+
+  own-here : (os : Objects) (d : String) → RowBody c bs v r (group os d) → Here (groupOwn v) bs (startIn c r) (length (listOf os), d)
+  own-here os d row = record { good = row .good; rest = row .rest; stands = record { within = omega (arith, row .inside); words-are = row .words-are } }
+
+  pub leaf-here : (l : Leaf) (d : String) → RowBody c bs v r (leaf l d) → Here (told (pathCase v) (otherCases v) (leafLetter l)) bs (startIn c r) l
+  leaf-here l d row = here-first (told (pathCase v) (otherCases v) (leafLetter l)) (objectEnd v) (body-here l d row)
+
+  end-is : (o : Object) → startIn c r + length (ownWords v o) ≡ startIn c r + length (frontWords v o) + length (wordsOf (objectEnd v) (descriptionOf o))
+  end-is o = omega (arith, ap length (front-words v o), length-append (frontWords v o) (wordsOf (objectEnd v) (descriptionOf o)))
+
+  pub ends : (o : Object) → RowBody c bs v r o → EndsAt c bs v r o (startIn c r + length (frontWords v o))
+  ends (leaf l d) row =
+      record { here = here-behind (body-here l d row) (frontWords v (leaf l d)) (objectEnd v) (front-words v (leaf l d)) (row .good .1); later = omega arith; end-is = end-is (leaf l d) }
+  ends (group os d) row =
+      record { here = here-behind (own-here os d row) (frontWords v (group os d)) (objectEnd v) (front-words v (group os d)) (row .good .1); later = omega arith; end-is = end-is (group os d) }
+
+  pub group-end : (o : Object) → RowBody c bs v r o → kindIn c r ≡ 1 → {q : ℕ} → Behind (field memberCount) bs (startIn c r) q → EndsAt c bs v r o q
+  group-end (leaf l d) row is behind = absurd (leaf-no-group l (sym (row .kind-is) ∙ is))
+  group-end (group os d) row is behind =
+      subst (EndsAt c bs v r (group os d)) (sym (behind (length (listOf os)) (here-first (field memberCount) (objectEnd v) (own-here os d row)))) (ends (group os d) row)
+
+  pub leaf-end : (o : Object) → RowBody c bs v r o → (kindIn c r ≡ 1 → ⊥) → {letter q : ℕ} → letter ≡ letterOf (kindIn c r)
+      → Behind (told (pathCase v) (otherCases v) letter) bs (startIn c r) q → EndsAt c bs v r o q
+  leaf-end (group os d) row other letter-is behind = absurd (other (row .kind-is))
+  leaf-end (leaf l d) row other {letter} {q} letter-is behind =
+      let same : letter ≡ leafLetter l = letter-is ∙ ap letterOf (row .kind-is) ∙ letter-of-leaf l in
+      let is = subst (λ x. Behind (told (pathCase v) (otherCases v) x) bs (startIn c r) q) same behind in
+      subst (EndsAt c bs v r (leaf l d)) (sym (is l (leaf-here l d row))) (ends (leaf l d) row)
+
+  -- Its description stands behind the flow frame flag.
+  module _ (late : 2 ≤ v) (o : Object) {end : ℕ} (e : EndsAt c bs v r o end) where
+    flag-here : Here (field flowFlag & string 0) bs end (0, descriptionOf o)
+    flag-here = let it = late-end v (descriptionOf o) late (e .here .good) in here-as (e .here) (field flowFlag & string 0) (it .0) (it .1)
+
+    pub described : {at : ℕ} → Behind (field flowFlag) bs end at → Describes c bs v r o at
+    described is =
+        record {
+          here = here-next (field flowFlag) (string 0) flag-here is;
+          later = omega (arith, e .later, here-later (field flowFlag) (string 0) flag-here is);
+          end-is = next-ends (field flowFlag) (string 0) flag-here is ∙ ap (λ k. end + k) (sym (ap length (late-end v (descriptionOf o) late (e .here .good) .0))) ∙ sym (e .end-is);
+        }
+
+  pub some-description : 2 ≤ v → (o : Object) → RowBody c bs v r o → (at : ℕ) × Describes c bs v r o at
+  some-description late o row = (startIn c r + length (frontWords v o) + 1, described late o (ends o row) (λ a here. refl))
