@@ -1,7 +1,8 @@
 //! A second reading of the papers, written from them alone: the plainest program that gives the
 //! answers of document 01, to be compared with the library.
 //!
-//! `01` in a comment is document 01-scope.md, `readings` is readings.md, `000` the source document.
+//! `01` in a comment is the customer's specification, `000` the description of the format that it cites, and the readings are what
+//! docs/DECISIONS.md has under 'What 01 leaves open'.
 
 pub mod answer;
 pub mod ask;

@@ -3,6 +3,7 @@ use mathlib.Core.Path.{refl}
 use mathlib.Core.Bool.{cond, _&&_}
 use mathlib.Core.Option.{Option, none}
 use Prim.Native.Nat.{ℕ}
+use mathlib.Core.List.{List, [], _∷_}
 use lib.Dec.{leb, eqb}
 use Rattle.format.specs.Layout.{Layout, field, either, when, renamed, _&_, _▸_}
 use Rattle.drawing.specs.Fields.{flag, byteIn, float}
@@ -27,6 +28,11 @@ pub record Marker : Type 0 where
 -- The highest marker id.
 abbrev pub lastMarker : ℕ → ℕ
 lastMarker v = cond (leb 4 v) 79 (cond (leb 1 v) 21 7)
+
+-- The id that a chain begins with; 0 is that of none.
+abbrev pub firstId : List Marker → ℕ
+firstId [] = 0
+firstId (m ∷ ms) = m .id
 
 -- What follows an id that is not 0, in 1.0.
 abbrev pub arrow : ℕ → Layout Marker

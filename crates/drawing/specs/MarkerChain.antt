@@ -8,8 +8,8 @@ use lib.Dec.{leb, eqb}
 use Rattle.format.specs.Layout.{Layout, field, nothing, either, when, case, implied, _&_}
 use Rattle.drawing.specs.Limits.{markerLimit}
 use Rattle.drawing.specs.Fields.{markerId}
-use Rattle.drawing.specs.Marker.{Marker, lastMarker, markerBody}
-use Rattle.drawing.specs.MarkerLaws.{firstId, body-id, last-id, chain-id}
+use Rattle.drawing.specs.Marker.{Marker, lastMarker, firstId, markerBody}
+use Rattle.drawing.specs.MarkerLaws.{body-id, last-id, chain-id}
 
 abbrev pub headAndTail : List Marker → Option (Marker × List Marker)
 headAndTail [] = none

@@ -10,13 +10,9 @@ use borrow.Author.Tests.{eqb-true}
 use Rattle.format.specs.Kind.{Allowed}
 use Rattle.format.specs.Format.{Made}
 use Rattle.drawing.specs.Fields.{markerFault, markerId, inRange}
-use Rattle.drawing.specs.Marker.{Marker, markerBody, marker, arrow}
+use Rattle.drawing.specs.Marker.{Marker, firstId, markerBody, marker, arrow}
 use mir.Syntax.{w8}
 use mir.Val.{toZ}
-
-abbrev pub firstId : List Marker → ℕ
-firstId [] = 0
-firstId (m ∷ ms) = m .id
 
 pub body-id : (v id : ℕ) (m : Marker) → markerBody v id .Good m → m .id ≡ id
 body-id v id m g = by (leb 1 v) g

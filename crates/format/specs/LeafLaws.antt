@@ -1,4 +1,4 @@
--- What the leaf codecs rest on. A field of m + n digits is a field of m digits and one of n: in the number that it writes, in a list that is read, and in one that is written.
+-- What the decoders and encoders of single fields rest on. A field of m + n digits is a field of m digits and one of n: in the number that it writes, in a list that is read, and in one that is written.
 -- So each width is proved from its parts, by the same law.
 use mathlib.Core.Path.{_≡_, sym, ap, _∙_}
 use mathlib.Core.List.{List, [], _∷_, _++_, append-assoc}

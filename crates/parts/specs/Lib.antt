@@ -1,4 +1,4 @@
--- Laws of the parts that a drawing's head and its objects are made of.
+-- Laws of segments and of runs of doubles.
 pub mod Segments
 pub mod SegmentLaws
 pub mod Doubles

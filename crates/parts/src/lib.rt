@@ -1,5 +1,5 @@
 // The layout in code: one function for each thing of the format, which passes over its fields from a file's bytes into a table's words, or from a
-// table's words into a file's bytes. Here are the parts that the head and the objects are made of.
+// table's words into a file's bytes. Here are settings, strings, transformations and segments; the rest is in `styles` and `leaves`.
 pub mod segment;
 pub mod settings;
 pub mod string;

@@ -14,7 +14,7 @@ use Rattle.format.specs.Pass.{splice}
 use Rattle.format.specs.SpliceLaws.{splice-nil}
 use Rattle.format.specs.Recode.{recoded}
 use Rattle.format.specs.RunLaws.{putMany, many-fit, recoded-halves}
-use Rattle.passes.specs.Sizes.{isRun}
+use Rattle.passes.specs.Sizes.{isRun, isShort}
 use Rattle.passes.specs.StoreLaws.{Room}
 use Rattle.passes.specs.Runs.{Fitting}
 
@@ -33,6 +33,23 @@ each-run P n e two four eight = by (eqb n 2) refl (eqb n 4) refl
 
 pub run-size : (n : ℕ) → isRun n ≡ true → (0 < n) × (n ≤ 8)
 run-size n e = each-run (λ n. (0 < n) × (n ≤ 8)) n e (omega arith, omega arith) (omega arith, omega arith) (omega arith, omega arith)
+
+pub run-short : (n : ℕ) → isRun n ≡ true → (n ≡ 8 → ⊥) → isShort n ≡ true
+run-short n e other = each-run (λ n. (n ≡ 8 → ⊥) → isShort n ≡ true) n e (λ other. refl) (λ other. refl) (λ other. absurd (other refl)) other
+
+pub each-short : (P : ℕ → Type 0) (n : ℕ) → isShort n ≡ true → P 2 → P 4 → P n
+each-short P n e two four = by (eqb n 2) refl
+  where
+    by : (a : Bool) → eqb n 2 ≡ a → P n
+    by true h = rw (eqb-true n 2 h) two
+    by false h = rw (eqb-true n 4 (simp h at e)) four
+
+pub short-four : (n : ℕ) → isShort n ≡ true → (n ≡ 2 → ⊥) → n ≡ 4
+short-four n e = each-short (λ n. (n ≡ 2 → ⊥) → n ≡ 4) n e (λ other. absurd (other refl)) (λ other. refl)
+
+-- One word each.
+pub short-word : (n : ℕ) → isShort n ≡ true → (n + 3) / 4 ≡ 1
+short-word n e = each-short (λ n. (n + 3) / 4 ≡ 1) n e refl refl
 
 -- ---- how many fit
 

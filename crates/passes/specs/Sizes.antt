@@ -10,3 +10,7 @@ isField n = eqb n 1 || (eqb n 2 || (eqb n 4 || eqb n 8))
 -- the sizes of fields that come in runs: a char, a float, a double
 abbrev pub isRun : ℕ → Bool
 isRun n = eqb n 2 || (eqb n 4 || eqb n 8)
+
+-- the sizes of those that are one word each: a char, a float
+abbrev pub isShort : ℕ → Bool
+isShort n = eqb n 2 || eqb n 4

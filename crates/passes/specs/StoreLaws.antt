@@ -70,6 +70,21 @@ module _ {base other : ℕ} {us start : List ℕ} {from to w u count : ℕ} wher
         by zero same none = sym (same ∙ splice-nil place s)
         by (suc n) same none = absurd (none (omega arith))
 
+    -- The next field is there, and there is room for it.
+    pub next-inside : 0 < left → at + w ≤ length us
+    next-inside more = by left more (on .rest .inside)
+      where
+        by : (n : ℕ) → 0 < n → at + n * w ≤ length us → at + w ≤ length us
+        by zero more inside = absurd (omega arith)
+        by (suc n) more inside = omega (arith, inside)
+
+    pub next-fits : 0 < left → place + u ≤ length s
+    next-fits more = by left more (on .rest .fits)
+      where
+        by : (n : ℕ) → 0 < n → place + n * u ≤ length s → place + u ≤ length s
+        by zero more fits = absurd (omega arith)
+        by (suc n) more fits = omega (arith, fits)
+
     -- Of words that are chars, the next is one.
     pub small-left : w ≡ 1 → ((i : ℕ) → i < count → getD us (from + i) 0 < 65536) → 0 < left → getD us at 0 < 65536
     small-left one small more =

@@ -4,10 +4,8 @@ use crate::Pass;
 use crate::field::refusal;
 use crate::source::units;
 use crate::source::width;
-use crate::stores::store_chars;
-use crate::stores::store_words;
-use crate::stores::write_chars;
-use crate::stores::write_words;
+use crate::stores::store_fields;
+use crate::stores::write_fields;
 ghost use mathlib.Core.Path.{_≡_};
 ghost use mathlib.Core.Bool.{not, true};
 ghost use Prim.Native.Nat.{_+_, _*_, _/_, _^_, _<_, _≤_};
@@ -42,15 +40,11 @@ fn store_run(file: &[u8], at: usize, bodies: &mut [u32], to: usize, size: usize,
     if n == 0 {
         return;
     }
-    if size == 2 {
-        store_chars(file, at, bodies, to, n);
+    if size == 8 {
+        store_fields(file, at, bodies, to, 4, n + n);
         return;
     }
-    if size == 4 {
-        store_words(file, at, bodies, to, n);
-        return;
-    }
-    store_words(file, at, bodies, to, n + n);
+    store_fields(file, at, bodies, to, size, n);
 }
 
 fn write_run(words: &[u32], at: usize, out: &mut [u8], to: usize, size: usize, count: usize)
@@ -62,15 +56,11 @@ fn write_run(words: &[u32], at: usize, out: &mut [u8], to: usize, size: usize, c
     if n == 0 {
         return;
     }
-    if size == 2 {
-        write_chars(words, at, out, to, n);
+    if size == 8 {
+        write_fields(words, at, out, to, 4, n + n);
         return;
     }
-    if size == 4 {
-        write_words(words, at, out, to, n);
-        return;
-    }
-    write_words(words, at, out, to, n + n);
+    write_fields(words, at, out, to, size, n);
 }
 
 fn put_run(

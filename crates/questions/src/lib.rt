@@ -1,4 +1,4 @@
-// Questions about a row's object: a paint, a text.
+// Questions about a row's object, a paint and a text; and which of two texts is to be shown.
 pub mod paint;
 pub mod paint_words;
 pub mod shown;

@@ -1,4 +1,4 @@
--- Helpers for the examples: a file written as the list of its fields, with the bytes of each field (01, 'Fields') and the words that
+-- What the examples share: a file written as the list of its fields, with the bytes of each field (01, 'Fields') and the words that
 -- hold it in a table (01, 'The table').
 use Prim.Native.Nat.{ℕ, zero, suc, _^_}
 use Prim.Native.Char.{Char, code}

@@ -1,3 +1,4 @@
+-- `fields::fault::fault` meets its contract.
 use borrow.Author.Needs.{needs}
 use Rattle.fields.proofs.fault.fault.Statement.{statement}
 use Rattle.fields.proofs.fault.fault.Tie as tie

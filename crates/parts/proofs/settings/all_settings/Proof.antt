@@ -1,3 +1,4 @@
+-- `parts::settings::all_settings` meets its contract.
 use mathlib.Core.Path.{_∙_}
 use Rattle.passes.specs.LayoutLaws.{laid, both, cased, field-laid}
 use borrow.Author.Needs.{needs}

@@ -1,3 +1,4 @@
+-- `parts::settings::ruler_settings` meets its contract.
 use Rattle.passes.specs.LayoutLaws.{laid, both, field-laid}
 use borrow.Author.Needs.{needs}
 use Rattle.parts.proofs.settings.ruler_settings.Statement.{statement}

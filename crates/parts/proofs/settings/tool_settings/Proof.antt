@@ -1,3 +1,4 @@
+-- `parts::settings::tool_settings` meets its contract.
 use mathlib.Core.Path.{_∙_}
 use Rattle.passes.specs.LayoutLaws.{laid, both, field-laid}
 use borrow.Author.Needs.{needs}

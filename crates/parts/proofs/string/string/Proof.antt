@@ -1,3 +1,4 @@
+-- `parts::string::string` meets its contract.
 use Rattle.passes.specs.CarryLaws.{none-carried}
 use Rattle.passes.specs.RunCarryLaws.{chars-laid}
 use Rattle.passes.specs.LayoutLaws.{laid, told}

@@ -1,3 +1,4 @@
+-- `styles::line_style::winding_and_markers` meets its contract.
 use mathlib.Core.Path.{_∙_}
 use Rattle.passes.specs.LayoutLaws.{laid, both, field-laid}
 use borrow.Author.Needs.{needs}
