@@ -1,4 +1,5 @@
-// What follows the id of a leaf, and what ends every object.
+// What follows the id of a leaf, and what ends every object. What a part hands back is handed on field by field: a copy of the whole struct would have to
+// wait until the stores of its fields are done.
 use crate::bitmap::bitmap;
 use crate::path::path;
 use crate::text::text;
@@ -26,7 +27,12 @@ pub fn object_end(
     if version < 2 {
         return behind;
     }
-    string(file, words, bodies, out, reverse, behind, 0)
+    let described = string(file, words, bodies, out, reverse, behind, 0);
+    Pass {
+        number: described.number,
+        at: described.at,
+        to: described.to,
+    }
 }
 
 pub fn leaf_parts(
@@ -43,12 +49,27 @@ pub fn leaf_parts(
     ensures { λ r. ⌜ Carries (told (pathCase version) (otherCases version) letter) reverse (now (file .entry)) (now (words .entry)) (now (bodies .entry)) (now (out .entry)) (now (bodies .exit)) (now (out .exit)) p r ⌝ }
 {
     if letter == 84 {
-        return text(file, words, bodies, out, reverse, p, version);
+        let typeset = text(file, words, bodies, out, reverse, p, version);
+        return Pass {
+            number: typeset.number,
+            at: typeset.at,
+            to: typeset.to,
+        };
     }
     if letter == 73 {
-        return bitmap(file, words, bodies, out, reverse, p);
+        let linked = bitmap(file, words, bodies, out, reverse, p);
+        return Pass {
+            number: linked.number,
+            at: linked.at,
+            to: linked.to,
+        };
     }
-    path(file, words, bodies, out, reverse, p, version)
+    let drawn = path(file, words, bodies, out, reverse, p, version);
+    Pass {
+        number: drawn.number,
+        at: drawn.at,
+        to: drawn.to,
+    }
 }
 
 pub fn leaf_body(
@@ -65,5 +86,10 @@ pub fn leaf_body(
     ensures { λ r. ⌜ Carries (leafBody version letter) reverse (now (file .entry)) (now (words .entry)) (now (bodies .entry)) (now (out .entry)) (now (bodies .exit)) (now (out .exit)) p r ⌝ }
 {
     let parts = leaf_parts(file, words, bodies, out, reverse, p, version, letter);
-    object_end(file, words, bodies, out, reverse, parts, version)
+    let ended = object_end(file, words, bodies, out, reverse, parts, version);
+    Pass {
+        number: ended.number,
+        at: ended.at,
+        to: ended.to,
+    }
 }
