@@ -70,7 +70,7 @@ fn paper(
     behind
 }
 
-// The settings are passed in three steps, since what is proved of a function grows with the square of its calls.
+// The settings are passed in three steps, since what the checker generates for a function grows with the square of its calls.
 fn ruler_settings(
     file: &[u8],
     words: &[u32],

@@ -17,6 +17,11 @@ pub record Room (us : List ℕ) (at w u count to room : ℕ) : Type 0 where
   pub inside : at + count * w ≤ length us
   pub fits : to + count * u ≤ room
 
+-- Where so many fit, one does.
+one-of-them : (place w count space : ℕ) → 0 < count → place + count * w ≤ space → place + w ≤ space
+one-of-them place w zero space some fit = absurd (omega arith)
+one-of-them place w (suc n) space some fit = omega (arith, fit)
+
 -- So many fields are left, from a place in the source and a place in the target on.
 pub record Storing (base other : ℕ) (us start : List ℕ) (from to w u count at place left : ℕ) (s : List ℕ) : Type 0 where
   pub same : splice to (recoded base w other u count (drop from us)) start ≡ splice place (recoded base w other u left (drop at us)) s
@@ -72,18 +77,10 @@ module _ {base other : ℕ} {us start : List ℕ} {from to w u count : ℕ} wher
 
     -- The next field is there, and there is room for it.
     pub next-inside : 0 < left → at + w ≤ length us
-    next-inside more = by left more (on .rest .inside)
-      where
-        by : (n : ℕ) → 0 < n → at + n * w ≤ length us → at + w ≤ length us
-        by zero more inside = absurd (omega arith)
-        by (suc n) more inside = omega (arith, inside)
+    next-inside more = one-of-them at w left (length us) more (on .rest .inside)
 
     pub next-fits : 0 < left → place + u ≤ length s
-    next-fits more = by left more (on .rest .fits)
-      where
-        by : (n : ℕ) → 0 < n → place + n * u ≤ length s → place + u ≤ length s
-        by zero more fits = absurd (omega arith)
-        by (suc n) more fits = omega (arith, fits)
+    next-fits more = one-of-them place u left (length s) more (on .rest .fits)
 
     -- Of words that are chars, the next is one.
     pub small-left : w ≡ 1 → ((i : ℕ) → i < count → getD us (from + i) 0 < 65536) → 0 < left → getD us at 0 < 65536
