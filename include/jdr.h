@@ -29,7 +29,7 @@ enum {
     JDR_BAD_CHAR = 7,            /* a char is not allowed here in this version */
     JDR_BAD_COUNT = 8,           /* a count or length is negative, or 0 where 1 is needed; or a dash count is odd */
     JDR_BAD_COMPONENT = 9,       /* a paint component is out of range */
-    JDR_TOO_DEEP = 10,           /* a group of depth 17, or a fifth marker in a chain */
+    JDR_TOO_DEEP = 10,           /* a group of depth 17, or a fifth marker in a chain, with an id that is not 0 */
     JDR_FLOW_FRAME = 11,         /* a flow frame flag is 1 */
     JDR_UNJOINED = 12,           /* a segment's start does not join the end before it (below version 1.3) */
     JDR_TRAILING_BYTES = 13,     /* bytes after the outer group; the offset is the first of them */

@@ -1,5 +1,7 @@
 /* UTF-8 to UTF-16, strictly: what is not the one spelling of a code point is refused, since a label with another char would list other
- * objects. */
+ * objects. And back for printing, where half of a pair that stands alone is printed as the replacement character. */
+#include <stdio.h>
+
 #include "label.h"
 
 /* The bytes of the code point that begins here, or 0 where none does. The text's closing 0 ends every sequence that is cut. */
@@ -45,4 +47,38 @@ int label_of(const char *text, uint16_t *chars, size_t *count)
         }
     }
     return 1;
+}
+
+static void print_point(uint32_t point)
+{
+    if (point < 0x80) {
+        putchar((int)point);
+        return;
+    }
+    if (point < 0x800) {
+        putchar((int)(0xC0 | point >> 6));
+    } else {
+        if (point < 0x10000) {
+            putchar((int)(0xE0 | point >> 12));
+        } else {
+            putchar((int)(0xF0 | point >> 18));
+            putchar((int)(0x80 | (point >> 12 & 0x3F)));
+        }
+        putchar((int)(0x80 | (point >> 6 & 0x3F)));
+    }
+    putchar((int)(0x80 | (point & 0x3F)));
+}
+
+void print_chars(const uint32_t *chars, size_t count)
+{
+    size_t i;
+
+    for (i = 0; i < count; i++) {
+        uint32_t point = chars[i];
+        if (point >= 0xD800 && point <= 0xDFFF) {
+            int paired = point <= 0xDBFF && i + 1 < count && chars[i + 1] >= 0xDC00 && chars[i + 1] <= 0xDFFF;
+            point = paired ? 0x10000 + ((point - 0xD800) << 10) + (chars[++i] - 0xDC00) : 0xFFFD;
+        }
+        print_point(point);
+    }
 }

@@ -1,5 +1,5 @@
 /* Reads a plan. Without a label its table is checked, written back and compared with the file; with one, the objects that have it for their
- * description are listed, each with the groups around it: plan FILE [LABEL]. */
+ * description are listed, each with the groups around it, and of a text what is shown: plan FILE [LABEL]. */
 #include <stdio.h>
 #include <stdlib.h>
 #include <string.h>
@@ -90,16 +90,31 @@ static const char *kind_name(uint32_t kind)
     }
 }
 
-/* A row with its kind and the rows of the groups around it. The parent numbers lead from the innermost group to the outer one, row 0. */
-static void print_row(const uint32_t *contents, uint32_t row)
+/* What is shown of a text: the LaTeX alternative if it has a char, otherwise the text itself. A row that is no text prints nothing. */
+static void print_shown(const struct table *table, uint32_t row)
 {
-    printf("row %u %s inside", (unsigned)row, kind_name(contents[(size_t)row * JDR_ROW_WORDS]));
+    struct jdr_text text = jdr_text(table->contents, table->contents_len, table->bodies, table->bodies_len, row);
+    if (text.number != JDR_ACCEPTED)
+        return;
+    printf(" shows ");
+    if (text.alternative_length != 0)
+        print_chars(table->bodies + text.alternative_start, text.alternative_length);
+    else
+        print_chars(table->bodies + text.text_start, text.text_length);
+}
+
+/* A row with its kind and the rows of the groups around it. The parent numbers lead from the innermost group to the outer one, row 0. */
+static void print_row(const struct table *table, uint32_t entry)
+{
+    uint32_t row = entry;
+    printf("row %u %s inside", (unsigned)row, kind_name(table->contents[(size_t)row * JDR_ROW_WORDS]));
     if (row == 0)
         printf(" no group");
     while (row != 0) {
-        row = contents[(size_t)row * JDR_ROW_WORDS + 1];
+        row = table->contents[(size_t)row * JDR_ROW_WORDS + 1];
         printf(" %u", (unsigned)row);
     }
+    print_shown(table, entry);
     putchar('\n');
 }
 
@@ -116,7 +131,7 @@ static int list_label(const struct table *table, const uint16_t *label, size_t l
     }
     print("list", answer);
     for (i = 0; i < answer.rows; i++)
-        print_row(table->contents, entries[i]);
+        print_row(table, entries[i]);
     free(entries);
     return answer.number == JDR_ACCEPTED;
 }

@@ -20,18 +20,25 @@ class Answer(ctypes.Structure):
     _fields_ = [(name, ctypes.c_uint32) for name in ("number", "offset", "rows", "words")]
 
 
+class Text(ctypes.Structure):
+    """A number, and where in the bodies the chars of a text's LaTeX alternative and its own stand, one a word."""
+
+    _fields_ = [(name, ctypes.c_uint32) for name in ("number", "alternative_start", "alternative_length", "text_start", "text_length")]
+
+
 _library = ctypes.CDLL(os.environ.get("JDR_LIBRARY", "libjdr_c.so"))
 
 
-def _call(name, runs, answer=Answer):
-    """The C function of this name, over so many runs: each is a pointer and a length."""
+def _call(name, runs, answer=Answer, numbers=0):
+    """The C function of this name, over so many runs, each a pointer and a length, and behind them so many numbers."""
     function = getattr(_library, name)
-    function.argtypes = [ctypes.c_void_p, ctypes.c_size_t] * runs
+    function.argtypes = [ctypes.c_void_p, ctypes.c_size_t] * runs + [ctypes.c_uint32] * numbers
     function.restype = answer
 
     def call(*lent):
         # an empty run of ctypes has a pointer too, and the library takes any pointer for it
-        return function(*[part for run in lent for part in (ctypes.cast(run, ctypes.c_void_p), len(run))])
+        pointers = [part for run in lent[:runs] for part in (ctypes.cast(run, ctypes.c_void_p), len(run))]
+        return function(*pointers, *lent[runs:])
 
     return call
 
@@ -52,7 +59,14 @@ def chars(text):
     return (ctypes.c_uint16 * (len(units) // 2)).from_buffer_copy(units)
 
 
+def string(units):
+    """The text of a run of words that hold 16-bit chars; half of a pair that stands alone becomes the replacement character."""
+    order = "little" if sys.byteorder == "little" else "big"
+    return b"".join(unit.to_bytes(2, order) for unit in units).decode(f"utf-16-{order[0]}e", "replace")
+
+
 read = _call("jdr_read", 3)  # file, contents, bodies
 check = _call("jdr_check", 2)  # contents, bodies
 write = _call("jdr_write", 3)  # contents, bodies, file
 list = _call("jdr_list", 4)  # contents, bodies, label, entries
+text = _call("jdr_text", 2, Text, 1)  # contents, bodies, row

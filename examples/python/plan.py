@@ -1,5 +1,5 @@
 """Reads a plan. Without a label its table is checked, written back and compared with the file; with one, the objects that have it for
-their description are listed, each with the groups around it: plan.py FILE [LABEL].
+their description are listed, each with the groups around it, and of a text what is shown: plan.py FILE [LABEL].
 """
 
 import os
@@ -41,6 +41,17 @@ def groups_around(contents, row):
         yield row
 
 
+def shown(table, row):
+    """What is shown of a text, as words to print: the LaTeX alternative if it has a char, otherwise the text. None for a row that is no text."""
+    text = jdr.text(*table, row)
+    if text.number != jdr.ACCEPTED:
+        return []
+    start, length = text.text_start, text.text_length
+    if text.alternative_length != 0:
+        start, length = text.alternative_start, text.alternative_length
+    return ["shows", jdr.string(table[1][start : start + length])]
+
+
 def list_label(table, label):
     """Lists without room first: the answer is already 0 where there are no entries, or has as offset how many are needed."""
     entries = jdr.words(0)
@@ -52,7 +63,7 @@ def list_label(table, label):
     contents = table[0]
     for row in entries[: answer.rows]:
         kind = jdr.KINDS[contents[row * jdr.ROW_WORDS]]
-        print(f"row {row} {kind} inside", *groups_around(contents, row) if row else ["no group"])
+        print(f"row {row} {kind} inside", *groups_around(contents, row) if row else ["no group"], *shown(table, row))
     return answer.number == jdr.ACCEPTED
 
 

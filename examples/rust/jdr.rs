@@ -10,6 +10,17 @@ pub struct Answer {
     pub words: u32,
 }
 
+/// Where the chars of a text stand in the bodies, one a word: those of its LaTeX alternative, and its own.
+#[repr(C)]
+#[derive(Clone, Copy, Debug, PartialEq, Eq)]
+pub struct Text {
+    pub number: u32,
+    pub alternative_start: u32,
+    pub alternative_length: u32,
+    pub text_start: u32,
+    pub text_length: u32,
+}
+
 /// The number of a call that is done.
 pub const ACCEPTED: u32 = 0;
 /// The number of a read that has no room for its rows.
@@ -24,7 +35,7 @@ pub const PATH: u32 = 2;
 pub const TEXT: u32 = 3;
 
 mod c {
-    use super::Answer;
+    use super::{Answer, Text};
 
     #[link(name = "jdr_c", kind = "static")]
     extern "C" {
@@ -60,6 +71,13 @@ mod c {
             entries: *mut u32,
             entries_len: usize,
         ) -> Answer;
+        pub fn jdr_text(
+            contents: *const u32,
+            contents_len: usize,
+            bodies: *const u32,
+            bodies_len: usize,
+            row: u32,
+        ) -> Text;
     }
 }
 
@@ -108,4 +126,8 @@ pub fn list(contents: &[u32], bodies: &[u32], label: &[u16], entries: &mut [u32]
             entries.len(),
         )
     }
+}
+
+pub fn text(contents: &[u32], bodies: &[u32], row: u32) -> Text {
+    unsafe { c::jdr_text(contents.as_ptr(), contents.len(), bodies.as_ptr(), bodies.len(), row) }
 }

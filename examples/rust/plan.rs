@@ -1,5 +1,5 @@
 //! Reads a plan. Without a label its table is checked, written back and compared with the file; with one, the objects that have it for
-//! their description are listed, each with the groups around it: plan FILE [LABEL].
+//! their description are listed, each with the groups around it, and of a text what is shown: plan FILE [LABEL].
 
 mod jdr;
 
@@ -49,9 +49,21 @@ fn kind_name(kind: u32) -> &'static str {
     }
 }
 
+/// What is shown of a text: the LaTeX alternative if it has a char, otherwise the text itself. A row that is no text has none.
+fn shown(table: &Table, row: u32) -> Option<String> {
+    let text = jdr::text(&table.contents, &table.bodies, row);
+    let (start, length) = match text.alternative_length {
+        0 => (text.text_start, text.text_length),
+        length => (text.alternative_start, length),
+    };
+    let words = &table.bodies[start as usize..][..length as usize];
+    let chars: Vec<u16> = words.iter().map(|word| *word as u16).collect();
+    (text.number == jdr::ACCEPTED).then(|| String::from_utf16_lossy(&chars))
+}
+
 /// A row with its kind and the rows of the groups around it. The parent numbers lead from the innermost group to the outer one, row 0.
-fn print_row(contents: &[u32], entry: u32) {
-    let word = |row: u32, place: usize| contents[row as usize * jdr::ROW_WORDS + place];
+fn print_row(table: &Table, entry: u32) {
+    let word = |row: u32, place: usize| table.contents[row as usize * jdr::ROW_WORDS + place];
     print!("row {entry} {} inside", kind_name(word(entry, 0)));
     if entry == 0 {
         print!(" no group");
@@ -60,6 +72,9 @@ fn print_row(contents: &[u32], entry: u32) {
     while row != 0 {
         row = word(row, 1);
         print!(" {row}");
+    }
+    if let Some(shown) = shown(table, entry) {
+        print!(" shows {shown}");
     }
     println!();
 }
@@ -74,7 +89,7 @@ fn list_label(table: &Table, label: &[u16]) -> bool {
     }
     print("list", answer);
     for entry in &entries[..answer.rows as usize] {
-        print_row(&table.contents, *entry);
+        print_row(table, *entry);
     }
     answer.number == jdr::ACCEPTED
 }

@@ -129,7 +129,7 @@ fn paint_words(version: Version, paint: &Paint) -> usize {
 }
 
 /// The text to show: the alternative if it has a char, otherwise the plain text, as that very run.
-pub fn shown<'a>(alternative: &'a [u32], plain: &'a [u32]) -> &'a [u32] {
+pub fn shown<'a, T>(alternative: &'a [T], plain: &'a [T]) -> &'a [T] {
     if alternative.is_empty() {
         plain
     } else {

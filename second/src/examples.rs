@@ -2,12 +2,14 @@
 //! as a tree: what is inside what is never taken from a table's parent numbers, which the programs follow.
 
 use crate::answer::Answer;
+use crate::ask;
 use crate::check;
 use crate::generate::chars;
 use crate::generate::special::plain_bitmap;
 use crate::list::{self, Part};
 use crate::model::{
-    Bitmap, Drawing, Group, LineStyle, Markers, Object, Paint, Path, Plain, Point, Segment, Settings, Text,
+    Bitmap, Drawing, Group, Latex, LineStyle, Markers, Object, Paint, Path, Plain, Point, Segment, Settings,
+    Text,
 };
 use crate::version::Version;
 use crate::{plans, read, table, write};
@@ -41,14 +43,14 @@ fn hall() -> Drawing {
 }
 
 /// A label that the outer group has, a group in it and what that holds; labels that begin alike; chars that are not ASCII, and two for one
-/// code point; a group without a label; and an object whose parent is not the group that ended last.
+/// code point; a group without a label; an object whose parent is not the group that ended last; and a text whose alternative is shown.
 fn bays() -> Drawing {
     let [_, _, version, ..] = Version::ALL;
     let mill = "Fräse 🔧";
     let inner = group("bay", vec![text("Bay", "bay"), bitmap("mill.png", mill)]);
     let red = Plain::Rgb([ONE, 0, 0, ONE]);
     let aisle = group("bay 1", vec![outline(red, Plain::Transparent, "bay")]);
-    let unnamed = group("", vec![aisle, text("Mill", mill)]);
+    let unnamed = group("", vec![aisle, with_alternative(text("Mill", mill), "\\emph{Mill} 🔧")]);
     let outer = Group { objects: vec![inner, unnamed], description: chars("bay") };
     Drawing { version, settings: Settings::None, outer }
 }
@@ -73,6 +75,21 @@ fn text(shown: &str, description: &str) -> Object {
         text: chars(shown),
         description: chars(description),
     })
+}
+
+/// A text with LaTeX fields, of which the alternative is shown.
+fn with_alternative(object: Object, alternative: &str) -> Object {
+    let Object::Text(text) = object else { unreachable!("only a text has an alternative") };
+    let latex = Latex {
+        family: chars("\\rmfamily"),
+        series: vec![],
+        shape: chars("\\itshape"),
+        size: vec![],
+        horizontal: 1,
+        vertical: 2,
+        alternative: chars(alternative),
+    };
+    Object::Text(Text { latex: Some(latex), ..text })
 }
 
 /// Three sides of a rectangle, which the path closes; from 1.1, since it has markers of that sort.
@@ -127,16 +144,22 @@ fn line(call: &str, answer: Answer) -> String {
     format!("{call}: {number} {offset} {rows} {words}\n")
 }
 
-/// An object with its kind and the groups around it, the innermost first.
+/// An object with its kind and the groups around it, the innermost first, and the text to show of a text.
 fn row_line(drawing: &Drawing, row: u32) -> String {
+    let mut shows = String::new();
     let kind = match list::opened(drawing)[row as usize].part {
         Part::Group => "group",
         Part::Path(_) => "path",
-        Part::Text(_) => "text",
+        Part::Text(text) => {
+            let alternative = text.latex.as_ref().map_or(&[][..], |latex| &latex.alternative);
+            let shown = ask::shown(alternative, &text.text);
+            shows = format!(" shows {}", String::from_utf16_lossy(shown));
+            "text"
+        }
         Part::Bitmap => "bitmap",
     };
     let around = &list::groups_around(drawing)[row as usize];
     let around: Vec<String> = around.iter().map(u32::to_string).collect();
     let inside = if around.is_empty() { "no group".to_string() } else { around.join(" ") };
-    format!("row {row} {kind} inside {inside}\n")
+    format!("row {row} {kind} inside {inside}{shows}\n")
 }

@@ -16,12 +16,13 @@ fn rows(plan: &str, label: &str) -> Vec<String> {
 
 #[test]
 fn labels_at_several_depths() {
-    let machines = ["row 2 bitmap inside 1 0", "row 3 path inside 1 0", "row 6 text inside 5 4 0"];
+    let machines =
+        ["row 2 bitmap inside 1 0", "row 3 path inside 1 0", "row 6 text inside 5 4 0 shows Press"];
     assert_eq!(rows("hall.jdr", "machine"), machines);
     let bays = [
         "row 0 group inside no group",
         "row 1 group inside 0",
-        "row 2 text inside 1 0",
+        "row 2 text inside 1 0 shows Bay",
         "row 6 path inside 5 4 0",
     ];
     assert_eq!(rows("bays.jdr", "bay"), bays);
@@ -29,7 +30,10 @@ fn labels_at_several_depths() {
 
 #[test]
 fn a_parent_is_not_the_group_that_ended_last() {
-    assert_eq!(rows("bays.jdr", "Fräse 🔧"), ["row 3 bitmap inside 1 0", "row 7 text inside 4 0"]);
+    assert_eq!(
+        rows("bays.jdr", "Fräse 🔧"),
+        ["row 3 bitmap inside 1 0", "row 7 text inside 4 0 shows \\emph{Mill} 🔧"]
+    );
     assert_eq!(rows("hall.jdr", "door"), ["row 7 bitmap inside 0"]);
 }
 

@@ -1,15 +1,13 @@
--- A drawing, its file, and the drawing of a file's bytes (01, 'Head', 'Numbers given back').
-use mathlib.Core.Path.{refl}
-use mathlib.Core.Bool.{cond}
+-- A drawing, its layout, and its file (01, 'Head').
+use mathlib.Core.Path.{_≡_, refl}
 use Prim.Native.Nat.{ℕ, _+_, _-_, _≤_}
 use Prim.Native.Char.{code}
-use mathlib.Core.List.{List, [], _∷_}
+use mathlib.Core.List.{List}
 use lib.ListN.{length}
-use lib.Dec.{ltb, eqb}
-use Rattle.format.specs.Codec.{Outcome, found, refused}
+use lib.Dec.{eqb}
 use Rattle.format.specs.FixedCodec.{spellFixed}
-use Rattle.drawing.specs.Codecs.{bytes, byteFields}
-use Rattle.format.specs.Layout.{Layout, field, constant, renamed, encode, parse, _&_, _▸_}
+use Rattle.drawing.specs.Codecs.{byteFields}
+use Rattle.format.specs.Layout.{Layout, field, constant, renamed, encode, _&_, _▸_}
 use Rattle.drawing.specs.Limits.{lengthLimit, depthLimit}
 use Rattle.drawing.specs.Fields.{magic, jdr, versionLength, versionChars, versionZero, charWhere}
 use Rattle.drawing.specs.FieldLaws.{magic-only, version-length-only, outer-only, version-back}
@@ -59,16 +57,7 @@ pub record Acceptable (d : Drawing) : Type 0 where
   pub good : file .Good d
   pub short : length (fileOf d) ≤ lengthLimit
 
--- The drawing of these bytes, or the number and offset of the refusal.
-pub data Reading : Type 0 where
-  drawing : Drawing → Reading
-  refusal : (number offset : ℕ) → Reading
-
--- Of bytes, this many in all: what is left from a place on tells its offset. Bytes behind the outer group are 13.
-abbrev pub reading : ℕ → Outcome Drawing → Reading
-reading total (found d []) = drawing d
-reading total (found d (b ∷ rest)) = refusal 13 (total - length (b ∷ rest))
-reading total (refused n at) = refusal n (total - length at)
-
-abbrev pub drawingOf : List ℕ → Reading
-drawingOf bs = cond (ltb lengthLimit (length bs)) (refusal 1 lengthLimit) (reading (length bs) (parse bytes file bs))
+-- These bytes are a drawing's file.
+pub record IsFile (bytes : List ℕ) (d : Drawing) : Type 0 where
+  pub acceptable : Acceptable d
+  pub bytes-are : bytes ≡ fileOf d

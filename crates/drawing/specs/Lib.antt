@@ -23,9 +23,11 @@ pub mod ObjectLayout
 pub mod Drawing
 pub mod Refusal
 pub mod Table
-pub mod TableDrawing
 pub mod Order
 pub mod Answers
 pub mod Questions
+pub mod Reading
+pub mod TableDrawing
+pub mod Computed
 pub mod MarkedPlans
 pub mod examples

@@ -6,7 +6,8 @@ use mathlib.Core.List.{List, [], _∷_, _++_, map}
 use lib.ListN.{take, set, replicate}
 use lib.Seq.{sets}
 use Rattle.format.specs.Digits.{digits}
-use Rattle.drawing.specs.Answers.{answer, ReadResult, readResult}
+use Rattle.drawing.specs.Answers.{answer, ReadResult}
+use Rattle.drawing.specs.Computed.{readResult}
 
 -- ---- plan A: version 1.0, a group of one bitmap named a, with the transformation 1 0 0 1 0 0
 

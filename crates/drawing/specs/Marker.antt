@@ -1,7 +1,7 @@
 -- One marker (01, 'Line style'). Chains of composite markers are in MarkerChain.
 use mathlib.Core.Path.{refl}
 use mathlib.Core.Bool.{cond, _&&_}
-use mathlib.Core.Option.{Option, none}
+use mathlib.Core.Option.{Option, none, some}
 use Prim.Native.Nat.{ℕ}
 use mathlib.Core.List.{List, [], _∷_}
 use lib.Dec.{leb, eqb}
@@ -33,6 +33,10 @@ lastMarker v = cond (leb 4 v) 79 (cond (leb 1 v) 21 7)
 abbrev pub firstId : List Marker → ℕ
 firstId [] = 0
 firstId (m ∷ ms) = m .id
+
+abbrev pub headAndTail : List Marker → Option (Marker × List Marker)
+headAndTail [] = none
+headAndTail (m ∷ ms) = some (m, ms)
 
 -- What follows an id that is not 0, in 1.0.
 abbrev pub arrow : ℕ → Layout Marker

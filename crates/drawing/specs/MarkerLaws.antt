@@ -10,11 +10,12 @@ use borrow.Author.Tests.{eqb-true}
 use Rattle.format.specs.Kind.{Allowed}
 use Rattle.format.specs.Format.{Made}
 use Rattle.drawing.specs.Fields.{markerFault, markerId, inRange}
-use Rattle.drawing.specs.Marker.{Marker, firstId, markerBody, marker, arrow}
+use Rattle.format.specs.Layout.{Layout, _&_}
+use Rattle.drawing.specs.Marker.{Marker, firstId, headAndTail, markerBody, marker, arrow}
 use mir.Syntax.{w8}
 use mir.Val.{toZ}
 
-pub body-id : (v id : ℕ) (m : Marker) → markerBody v id .Good m → m .id ≡ id
+body-id : (v id : ℕ) (m : Marker) → markerBody v id .Good m → m .id ≡ id
 body-id v id m g = by (leb 1 v) g
   where
     by : (t : Bool) → cond t (marker v id .Good m) (arrow id .Good m) → m .id ≡ id
@@ -30,8 +31,13 @@ id-may false false e = absurd (omega arith)
 pub last-id : (high id : ℕ) (ms : List Marker) → Allowed (markerId high false) id → ms ≡ [] → firstId ms ≡ id
 last-id high id ms a e = rw e (sym (eqb-true id 0 (id-may (inRange 0 high (toZ w8 id)) (eqb id 0) (a .faultless))))
 
-pub chain-id : {A : Type 0} (P : A → Type 0) (make : A → List Marker) (id : ℕ) → ((a : A) → P a → firstId (make a) ≡ id)
-    → (ms : List Marker) (o : Option A) (t : Bool) → eqb id 0 ≡ t → cond t (ms ≡ []) (Made P make ms o) → firstId ms ≡ id
-chain-id P make id h ms o true e g = rw g (sym (eqb-true id 0 e))
-chain-id P make id h ms none false e g = absurd g
-chain-id P make id h ms (some a) false e g = ap firstId (sym (g .0)) ∙ h a (g .1)
+-- What an id leads to: no marker where it is 0, and otherwise one with that id and then more.
+id-tells : (v id : ℕ) (rest : Layout (List Marker)) (ms : List Marker) (o : Option (Marker × List Marker)) (t : Bool) → eqb id 0 ≡ t
+    → cond t (ms ≡ []) (Made ((markerBody v id & rest) .Good) (λ t. t .0 ∷ t .1) ms o) → firstId ms ≡ id
+id-tells v id rest ms o true e g = rw g (sym (eqb-true id 0 e))
+id-tells v id rest ms none false e g = absurd g
+id-tells v id rest ms (some t) false e g = ap firstId (sym (g .0)) ∙ body-id v id (t .0) (g .1 .0)
+
+pub chain-id : (v high : ℕ) (rest : Layout (List Marker)) (id : ℕ) (ms : List Marker) → Allowed (markerId high true) id
+    → cond (eqb id 0) (ms ≡ []) (Made ((markerBody v id & rest) .Good) (λ t. t .0 ∷ t .1) ms (headAndTail ms)) → firstId ms ≡ id
+chain-id v high rest id ms allowed good = id-tells v id rest ms (headAndTail ms) (eqb id 0) refl good

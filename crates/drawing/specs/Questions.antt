@@ -1,9 +1,10 @@
 -- What the paint question and the text question answer, and which of two texts is shown (01, 'Paint', 'Text to show').
+use mathlib.Core.Path.{_≡_}
 use mathlib.Core.Bool.{cond}
 use mathlib.Core.Option.{Option, none, some, Option·map}
-use Prim.Native.Nat.{ℕ, _+_, _-_}
+use Prim.Native.Nat.{ℕ, _+_, _≤_}
 use mathlib.Core.List.{List, []}
-use lib.ListN.{length, getElem?}
+use lib.ListN.{length, take, drop, getElem?}
 use lib.Dec.{ltb}
 use lib.Ieee.{Float, binary32, ofBits}
 use Rattle.drawing.specs.declared.Paint as PaintEnum
@@ -15,21 +16,20 @@ use Rattle.drawing.specs.declared.Which.the-variants.{Line, Fill, Text}
 use Rattle.drawing.specs.declared.Span.{Span}
 use Rattle.drawing.specs.declared.TextAnswer.{TextAnswer}
 use Rattle.drawing.specs.declared.Answer.{Answer}
-use Rattle.drawing.specs.String.{String}
+use Rattle.drawing.specs.String.{String, string}
 use Rattle.drawing.specs.Choices.{ifFlag}
 use Rattle.drawing.specs.Paint as P
 use Rattle.drawing.specs.Text as T
 use Rattle.drawing.specs.Object.{Object, Leaf}
 use Rattle.drawing.specs.ObjectId.{leafOf, pathOf, textOf}
 use Rattle.drawing.specs.Drawing.{Drawing}
-use Rattle.drawing.specs.Table.{wordsOf, startIn}
-use Rattle.drawing.specs.TableDrawing.{drawingOfTable}
+use Rattle.drawing.specs.Table.{wordsOf, startIn, contentsOf}
 use Rattle.drawing.specs.Order.{objectsOf}
 use Rattle.drawing.specs.Answers.{answer}
 
 -- ---- asking about a part of a row's object
 
--- A part, or the refusal's number: 16 for a bad table, 6 for a row out of range, 7 for an object with no such part.
+-- A part, or the refusal's number: 6 for a row out of range, 7 for an object with no such part, and 16 where there is no table.
 pub data Found (A : Type 0) : Type 0 where
   part : A → Found A
   refusal : ℕ → Found A
@@ -42,9 +42,9 @@ abbrev pub partAt : {A : Type 0} → (Object → Option A) → Option Object →
 partAt has none = refusal 6
 partAt has (some o) = orRefusal 7 (has o)
 
-abbrev pub partIn : {A : Type 0} → (Drawing → Object → Option A) → Option Drawing → ℕ → Found A
-partIn has none row = refusal 16
-partIn has (some d) row = partAt (has d) (getElem? (objectsOf d) row)
+-- The part of the object with this row number in a drawing.
+abbrev pub partOf : {A : Type 0} → (Object → Option A) → ℕ → Drawing → Found A
+partOf has row d = partAt has (getElem? (objectsOf d) row)
 
 -- ---- the paint question
 
@@ -67,20 +67,20 @@ paintValue (part (P.linear f t d)) = Linear (plainValue f) (plainValue t) d
 paintValue (part (P.radial f t l)) = Radial (plainValue f) (plainValue t) l
 
 -- What each case of the public answer says: 01's answer, whose offset and counts are 0, the form (0 plain, 1 linear, 2 radial), the one or two
--- plain paints, and a gradient's integer. With a refusal the paint is transparent.
+-- plain paints, and a gradient's integer: the direction of a linear one, the location of a radial one. With a refusal the paint is transparent.
 pub record PaintGiven : Type 0 where
   pub answer : Answer
   pub form : ℕ
   pub first : PaintEnum.Paint
   pub second : PaintEnum.Paint
-  pub place : ℕ
+  pub directionOrLocation : ℕ
 
 abbrev pub paintGiven : PaintAnswer → PaintGiven
 paintGiven (Refused n) =
-    record { answer = answer n 0 0 0; form = 0; first = PaintCase.Transparent; second = PaintCase.Transparent; place = 0 }
-paintGiven (Plain p) = record { answer = answer 0 0 0 0; form = 0; first = p; second = PaintCase.Transparent; place = 0 }
-paintGiven (Linear f t d) = record { answer = answer 0 0 0 0; form = 1; first = f; second = t; place = d }
-paintGiven (Radial f t l) = record { answer = answer 0 0 0 0; form = 2; first = f; second = t; place = l }
+    record { answer = answer n 0 0 0; form = 0; first = PaintCase.Transparent; second = PaintCase.Transparent; directionOrLocation = 0 }
+paintGiven (Plain p) = record { answer = answer 0 0 0 0; form = 0; first = p; second = PaintCase.Transparent; directionOrLocation = 0 }
+paintGiven (Linear f t d) = record { answer = answer 0 0 0 0; form = 1; first = f; second = t; directionOrLocation = d }
+paintGiven (Radial f t l) = record { answer = answer 0 0 0 0; form = 2; first = f; second = t; directionOrLocation = l }
 
 -- A part that leaves of one kind have.
 abbrev pub ofLeaf : {A : Type 0} → (Leaf → Option A) → Option (Leaf × String) → Option A
@@ -96,8 +96,8 @@ paintPart Line o = Option·map (λ p. p .linePaint) (leafPart pathOf o)
 paintPart Fill o = Option·map (λ p. p .fillPaint) (leafPart pathOf o)
 paintPart Text o = Option·map (λ t. t .paint) (leafPart textOf o)
 
-abbrev pub paintAnswer : (contents bodies : List ℕ) → ℕ → Which → PaintAnswer
-paintAnswer contents bodies row which = paintValue (partIn (λ d o. paintPart which o) (drawingOfTable contents bodies) row)
+abbrev pub paintAsked : Which → ℕ → Drawing → PaintAnswer
+paintAsked which row d = paintValue (partOf (paintPart which) row d)
 
 -- ---- the text question
 
@@ -107,32 +107,64 @@ span start chars = record { start = start; length = length chars }
 abbrev pub noSpan : Span
 noSpan = span 0 []
 
--- The alternative's chars, which end the LaTeX fields of a text whose body begins here.
+-- The words of a string in a body: its length and its chars.
+abbrev pub stringWords : String → ℕ
+stringWords s = length (wordsOf (string 0) s)
+
+-- The words before the alternative's chars: the font, the flag, four strings, two bytes, and the length.
+abbrev pub beforeAlternative : T.Text → T.Latex → ℕ
+beforeAlternative t l =
+    length (wordsOf T.font (T.fontOf t)) + 1 + stringWords (l .family) + stringWords (l .series) + stringWords (l .shape) + stringWords (l .size) + 2 + 1
+
+-- The words before the text's chars: the font, the flag with the LaTeX fields, the paint, and the length.
+abbrev pub beforeText : ℕ → T.Text → ℕ
+beforeText v t = length (wordsOf T.font (T.fontOf t)) + length (wordsOf (ifFlag T.latex) (t .latex)) + length (wordsOf (P.paint v) (t .paint)) + 1
+
+-- Where the alternative's chars stand, of a text whose body begins here.
 abbrev pub alternativeSpan : ℕ → T.Text → Option T.Latex → Span
 alternativeSpan start t none = noSpan
-alternativeSpan start t (some l) =
-    span
-    (start + length (wordsOf T.font (T.fontOf t)) + (length (wordsOf (ifFlag T.latex) (some l)) - length (l .alternative)))
-    (l .alternative)
+alternativeSpan start t (some l) = span (start + beforeAlternative t l) (l .alternative)
 
--- The text's chars, which end its fields.
-abbrev pub textSpan : ℕ → ℕ → T.Text → Span
-textSpan v start t = span (start + (length (wordsOf (T.text v) t) - length (t .text))) (t .text)
+-- With a refusal the places are 0.
+abbrev pub noText : ℕ → TextAnswer
+noText n = record { number = n; alternative = noSpan; text = noSpan }
 
--- The answer for a text in a drawing of this version, with a body that begins here. With a refusal the places are 0.
+-- The answer for a text in a drawing of this version, with a body that begins here.
 abbrev pub textValue : (start : ℕ) → Found (ℕ × T.Text) → TextAnswer
-textValue start (refusal n) = record { number = n; alternative = noSpan; text = noSpan }
-textValue start (part t) =
-    record { number = 0; alternative = alternativeSpan start (t .1) (t .1 .latex); text = textSpan (t .0) start (t .1) }
+textValue start (refusal n) = noText n
+textValue start (part (v, t)) =
+    record { number = 0; alternative = alternativeSpan start t (t .latex); text = span (start + beforeText v t) (t .text) }
 
 -- A body begins where its row says.
-abbrev pub textAnswer : (contents bodies : List ℕ) → ℕ → TextAnswer
-textAnswer contents bodies row =
-    textValue (startIn contents row)
-    (partIn (λ d o. Option·map (λ t. (d .version, t)) (leafPart textOf o)) (drawingOfTable contents bodies) row)
+abbrev pub textAsked : ℕ → Drawing → TextAnswer
+textAsked row d =
+    textValue (startIn (contentsOf d) row) (partOf (λ o. Option·map (λ t. (d .version, t)) (leafPart textOf o)) row d)
+
+-- What the public answer says: 01's answer, whose offset and counts are 0, and the two places.
+pub record TextGiven : Type 0 where
+  pub answer : Answer
+  pub alternative : Span
+  pub text : Span
+
+abbrev pub textGiven : TextAnswer → TextGiven
+textGiven r = record { answer = answer (r .number) 0 0 0; alternative = r .alternative; text = r .text }
+
+-- The alternative's chars; none without LaTeX fields.
+abbrev pub alternativeOf : Option T.Latex → String
+alternativeOf none = []
+alternativeOf (some l) = l .alternative
+
+-- A place in the bodies holds these chars.
+pub record CharsAt (bodies : List ℕ) (place : Span) (chars : String) : Type 0 where
+  pub inside : place .start + place .length ≤ length bodies
+  pub chars-are : take (place .length) (drop (place .start) bodies) ≡ chars
 
 -- ---- the text to show
 
 -- The alternative if it has a char, otherwise the plain text. A is the type of the lent runs themselves: what is shown is that very run.
 abbrev pub shown : {A : Type 0} → ℕ → (alternative plain : A) → A
 shown alternativeLength alternative plain = cond (ltb 0 alternativeLength) alternative plain
+
+-- The chars that are shown for a text.
+abbrev pub shownChars : T.Text → String
+shownChars t = shown (length (alternativeOf (t .latex))) (alternativeOf (t .latex)) (t .text)

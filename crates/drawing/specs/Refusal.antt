@@ -5,7 +5,7 @@ use Prim.Native.Nat.{ℕ, _<_, _≤_}
 use mathlib.Core.List.{List, _++_}
 use lib.ListN.{length}
 use Rattle.format.specs.Kind.{Kind, Field}
-use Rattle.format.specs.Codec.{spellAll}
+use Rattle.format.specs.Spelling.{spellAll}
 use Rattle.format.specs.FixedCodec.{spellFixed, Cut, Faulty}
 use Rattle.drawing.specs.Codecs.{byteFields}
 use Rattle.format.specs.Script.{Script, end, Asks}

@@ -8,9 +8,10 @@ use mathlib.Core.List.{List, [], _∷_}
 use lib.ListN.{length, getD}
 use lib.Dec.{eqb, leb}
 use Rattle.format.specs.Codec.{Outcome, found, refused}
-use Rattle.format.specs.FixedCodec.{splitAt}
-use Rattle.drawing.specs.Codecs as Codecs
-use Rattle.format.specs.Layout.{Layout, field, parse, _▸_}
+use Rattle.format.specs.FixedReading.{splitAt}
+use Rattle.drawing.specs.Reading as Reading
+use Rattle.format.specs.Layout.{Layout, field, _▸_}
+use Rattle.format.specs.Parse.{parse}
 use Rattle.drawing.specs.Limits.{lastMinor, lengthLimit, depthLimit}
 use Rattle.drawing.specs.Fields.{integerIn}
 use Rattle.drawing.specs.String.{String, equal}
@@ -56,7 +57,7 @@ bodyFrom kind parent words p (found a rest) =
     (met a (record { row = p .row; contents = p .contents; at = p .at + used; bodies = rest }))
 
 abbrev pub body : {A : Type 0} → Layout A → (kind parent : ℕ) (words : List ℕ) → Place → Walk A
-body L kind parent words p = bodyFrom kind parent words p (parse Codecs.words L (p .bodies))
+body L kind parent words p = bodyFrom kind parent words p (parse Reading.words L (p .bodies))
 
 abbrev pub walkMany : ℕ → (Place → Walk Object) → Place → Walk (List Object)
 walkMany zero each p = met [] p
@@ -114,4 +115,4 @@ behindHead contents total (found h rest) =
     (walkOuter (h .0) (record { row = 0; contents = contents; at = total - length rest; bodies = rest }))
 
 abbrev pub drawingOfTable : List ℕ → List ℕ → Option Drawing
-drawingOfTable contents bodies = behindHead contents (length bodies) (parse Codecs.words tableHead bodies)
+drawingOfTable contents bodies = behindHead contents (length bodies) (parse Reading.words tableHead bodies)

@@ -8,7 +8,8 @@ use lib.ListN.{length, take, drop}
 use Rattle.format.specs.Digits.{number}
 use Rattle.format.specs.Kind as K
 use Rattle.format.specs.Codec.{Outcome, found, refused}
-use Rattle.format.specs.FixedCodec.{Fixed, fixed}
+use Rattle.format.specs.FixedCodec.{Fixed}
+use Rattle.format.specs.FixedReading.{fixed}
 use Rattle.fields.specs.declared.turn.Turn.{Turn}
 use Rattle.fields.specs.declared.turn.Turn.the-variants.{Value, Fault}
 

@@ -11,7 +11,7 @@ use lib.ListN.{length, take, drop, length-drop, take-append-drop}
 use lib.Seq.{drop-drop, length-take-le}
 use Rattle.format.specs.Digits.{number}
 use Rattle.format.specs.Kind as K
-use Rattle.format.specs.FixedCodec.{fault, judged, splitAt, conclude, verdict, fixed, literal}
+use Rattle.format.specs.FixedReading.{fault, judged, splitAt, conclude, verdict, fixed, literal}
 use Rattle.format.specs.FixedCodecLaws.{splitAt-append, splitAt-short}
 use Rattle.fields.specs.declared.turn.Turn.the-variants.{Value, Fault}
 use Rattle.fields.specs.Turn.{isSize, Turned}

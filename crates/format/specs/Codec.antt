@@ -3,6 +3,7 @@ use mathlib.Core.Path.{_≡_}
 use Prim.Native.Nat.{ℕ}
 use mathlib.Core.List.{List, [], _∷_, _++_}
 use Rattle.format.specs.Kind.{Kind, Field, Allowed}
+use Rattle.format.specs.Spelling.{Spelling}
 
 -- What reading comes to: a value and the units behind it, or the number of a refusal and the units from the place at fault on.
 pub data Outcome (A : Type 0) : Type 0 where
@@ -34,10 +35,6 @@ pub record Lawful (C : Codec) : Type 0 where
   pub explains : (k : Kind) (us : List ℕ) → C .Units us → Explained C k us (C .read k us)
   pub behind : (us rest : List ℕ) → C .Units (us ++ rest) → C .Units rest
 
--- A way to write: one spelling for each kind and value.
-abbrev pub Spelling : Type 0
-Spelling = Kind → ℕ → List ℕ
-
 -- The codec takes this way of writing, whatever comes behind a field.
 abbrev pub Writes : Codec → Spelling → Type 0
 Writes C spell = (k : Kind) (v : ℕ) (rest : List ℕ) → Allowed k v → C .Spells k v (spell k v) rest
@@ -45,11 +42,6 @@ Writes C spell = (k : Kind) (v : ℕ) (rest : List ℕ) → Allowed k v → C .S
 -- The codec takes no other way.
 abbrev pub Strict : Codec → Spelling → Type 0
 Strict C spell = (k : Kind) (v : ℕ) (us rest : List ℕ) → C .Spells k v us rest → us ≡ spell k v
-
--- The units that spell a run of fields.
-abbrev pub spellAll : Spelling → List Field → List ℕ
-spellAll spell [] = []
-spellAll spell (f ∷ fs) = spell (f .kind) (f .value) ++ spellAll spell fs
 
 -- These fields, one after another, are spelled by these units, where those units come behind them.
 abbrev pub Spelled : Codec → List Field → List ℕ → List ℕ → Type 0

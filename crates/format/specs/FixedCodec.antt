@@ -1,15 +1,14 @@
 -- Codecs of fixed width: a field is a run of digits in some base, as many as its shape has, the highest first.
 use mathlib.Core.Path.{_≡_}
-use mathlib.Core.Logic.{_⊎_}
 use mathlib.Core.Bool.{cond}
-use mathlib.Core.Option.{Option, none, some, Option·map}
-use Prim.Native.Nat.{ℕ, zero, suc, _<_}
-use mathlib.Core.List.{List, [], _∷_, _++_}
+use mathlib.Core.Option.{Option, none, some}
+use Prim.Native.Nat.{ℕ, _<_}
+use mathlib.Core.List.{List, _++_}
 use lib.ListN.{length}
 use lib.Dec.{ltb}
-use Rattle.format.specs.Digits.{Below, number, digits}
+use Rattle.format.specs.Digits.{number, digits}
 use Rattle.format.specs.Kind.{Shape, values, Kind}
-use Rattle.format.specs.Codec.{Codec, Spelling, Outcome, found, refused}
+use Rattle.format.specs.Spelling.{Spelling}
 
 pub record Fixed : Type 0 where
   pub base : ℕ
@@ -21,73 +20,28 @@ pub record Fixed : Type 0 where
   pub missing : ℕ
   pub meaningless : ℕ
 
--- The first n units and those behind them, `none` where there are fewer.
-abbrev pub splitAt : ℕ → List ℕ → Option (List ℕ × List ℕ)
-splitAt zero us = some ([], us)
-splitAt (suc n) [] = none
-splitAt (suc n) (u ∷ us) = Option·map (λ parts. (u ∷ parts .0, parts .1)) (splitAt n us)
+-- Where a number stands for itself: it has to be one of the shape's values.
+abbrev pub itself : Shape → ℕ → Option ℕ
+itself s x = cond (ltb x (values s)) (some x) none
 
--- What the digits of a field come to: a value, or the number of a refusal.
-pub data Verdict : Type 0 where
-  value : ℕ → Verdict
-  fault : ℕ → Verdict
+abbrev pub spellFixed : Fixed → Spelling
+spellFixed F k v = digits (F .base) (F .width (k .shape)) v
 
-abbrev pub judged : ℕ → ℕ → Verdict
-judged v zero = value v
-judged v (suc n) = fault (suc n)
-
-abbrev pub verdict : Fixed → Kind → Option ℕ → Verdict
-verdict F k none = fault (F .meaningless)
-verdict F k (some v) = judged v (k .fault v)
-
-abbrev pub judge : Fixed → Kind → List ℕ → Verdict
-judge F k ds = verdict F k (F .meaning (k .shape) (number (F .base) ds))
-
-abbrev pub conclude : Verdict → List ℕ → List ℕ → Outcome ℕ
-conclude (value v) us rest = found v rest
-conclude (fault n) us rest = refused n us
-
-abbrev pub readCut : Fixed → Kind → List ℕ → Option (List ℕ × List ℕ) → Outcome ℕ
-readCut F k us none = refused (F .missing) us
-readCut F k us (some parts) = conclude (judge F k (parts .0)) us (parts .1)
-
-pub record SpellsFixed (F : Fixed) (k : Kind) (v : ℕ) (us : List ℕ) : Type 0 where
-  pub long : length us ≡ F .width (k .shape)
-  pub below : Below (F .base) us
-  pub means : F .meaning (k .shape) (number (F .base) us) ≡ some v
-
--- A field at fault: its digits are there, and they come to a fault.
-pub record Faulty (F : Fixed) (k : Kind) (us : List ℕ) (n : ℕ) : Type 0 where
-  pub front : List ℕ
-  pub rest : List ℕ
-  pub split : us ≡ front ++ rest
-  pub long : length front ≡ F .width (k .shape)
-  pub says : judge F k front ≡ fault n
+-- What is wrong with what a number stands for in a field of this kind, 0 for nothing.
+abbrev pub numberFault : Fixed → Kind → Option ℕ → ℕ
+numberFault F k none = F .meaningless
+numberFault F k (some v) = k .fault v
 
 -- A field that is cut: fewer units are left than it has digits.
 pub record Cut (F : Fixed) (k : Kind) (us : List ℕ) (n : ℕ) : Type 0 where
   pub short : length us < F .width (k .shape)
   pub number : n ≡ F .missing
 
-abbrev pub fixed : Fixed → Codec
-fixed F =
-    record {
-      Units = Below (F .base);
-      Spells = λ k v us rest. SpellsFixed F k v us;
-      Stops = λ k us n at. (at ≡ us) × (Cut F k us n ⊎ Faulty F k us n);
-      read = λ k us. readCut F k us (splitAt (F .width (k .shape)) us);
-    }
-
-abbrev pub spellFixed : Fixed → Spelling
-spellFixed F k v = digits (F .base) (F .width (k .shape)) v
-
--- The codec in which a number stands for itself, where a field of the shape can have that value, and elsewhere for nothing.
-abbrev pub literal : (base : ℕ) → (Shape → ℕ) → (missing meaningless : ℕ) → Fixed
-literal base width missing meaningless =
-    record {
-      base = base;
-      width = width;
-      meaning = λ s v. cond (ltb v (values s)) (some v) none;
-      missing = missing;
-      meaningless = meaningless;
-    }
+-- A field at fault: its digits are there, and something is wrong with the number that they write.
+pub record Faulty (F : Fixed) (k : Kind) (us : List ℕ) (n : ℕ) : Type 0 where
+  pub front : List ℕ
+  pub rest : List ℕ
+  pub split : us ≡ front ++ rest
+  pub long : length front ≡ F .width (k .shape)
+  pub fault-is : numberFault F k (F .meaning (k .shape) (number (F .base) front)) ≡ n
+  pub some-fault : 0 < n

@@ -13,8 +13,10 @@ use borrow.Author.Tests.{lt-ltb, ltb-true}
 use Rattle.format.specs.Digits.{Below, number, digits}
 use Rattle.format.specs.DigitsLaws.{length-digits, below-digits, number-digits, number-below, digits-number}
 use Rattle.format.specs.Kind.{Shape, values, Kind, Field, Allowed}
-use Rattle.format.specs.Codec.{Lawful, Writes, Strict, spellAll, found, refused, Explained}
-use Rattle.format.specs.FixedCodec.{Fixed, fixed, splitAt, value, fault, judged, verdict, judge, conclude, readCut, SpellsFixed, Faulty, Cut, spellFixed, literal}
+use Rattle.format.specs.Codec.{Lawful, Writes, Strict, found, refused, Explained}
+use Rattle.format.specs.Spelling.{spellAll}
+use Rattle.format.specs.FixedCodec.{Fixed, Faulty, Cut, spellFixed, numberFault}
+use Rattle.format.specs.FixedReading.{fixed, splitAt, value, fault, judged, verdict, judge, conclude, readCut, SpellsFixed, literal}
 
 -- A run of units that is split off where it ends.
 pub splitAt-append : (front rest : List ℕ) (n : ℕ) → length front ≡ n → splitAt n (front ++ rest) ≡ some (front, rest)
@@ -58,6 +60,7 @@ below-append base (u ∷ us) rest h g = (h .0, below-append base us rest (h .1) 
 -- What is asked of a codec of fixed width: a field's value fits its shape's bytes, and each such value has a spelling.
 pub record Sensible (F : Fixed) : Type 0 where
   pub positive : 0 < F .base
+  pub counted : 0 < F .meaningless
   pub fits : (s : Shape) (x v : ℕ) → x < F .base ^ F .width s → F .meaning s x ≡ some v → v < values s
   pub plain : (s : Shape) (v : ℕ) → v < values s → F .meaning s v ≡ some v
   pub room : (s : Shape) → values s ≤ F .base ^ F .width s
@@ -73,17 +76,23 @@ module _ (F : Fixed) (S : Sensible F) where
   fixed-reads : (k : Kind) (v : ℕ) (us rest : List ℕ) → SpellsFixed F k v us → Allowed k v → readCut F k (us ++ rest) (splitAt (F .width (k .shape)) (us ++ rest)) ≡ found v rest
   fixed-reads k v us rest p a = rw (splitAt-append us rest (F .width (k .shape)) (p .long), judge-value k v us p a)
 
+  -- A fault is what the digits come to.
+  faulty-verdict : (k : Kind) (n : ℕ) (m : Option ℕ) → numberFault F k m ≡ n → 0 < n → verdict F k m ≡ fault n
+  faulty-verdict k n none e h = ap fault e
+  faulty-verdict k zero (some v) e h = absurd (omega arith)
+  faulty-verdict k (suc n) (some v) e h = rw e
+
   fixed-stops : (k : Kind) (us : List ℕ) (n : ℕ) → Cut F k us n ⊎ Faulty F k us n → readCut F k us (splitAt (F .width (k .shape)) us) ≡ refused n us
   fixed-stops k us n (inl h) = rw (splitAt-short us (F .width (k .shape)) (h .short), h .number)
   fixed-stops k us n (inr h) =
       let c : splitAt (F .width (k .shape)) us ≡ some (h .front, h .rest) = rw (h .split) (splitAt-append (h .front) (h .rest) (F .width (k .shape)) (h .long)) in
-      rw (c, h .says)
+      rw (c, faulty-verdict k n (F .meaning (k .shape) (number (F .base) (h .front))) (h .fault-is) (h .some-fault))
 
   -- What a verdict says of the digits.
   explain-verdict : (k : Kind) (us front rest : List ℕ) → Below (F .base) us → us ≡ front ++ rest → length front ≡ F .width (k .shape)
       → (m : Option ℕ) → F .meaning (k .shape) (number (F .base) front) ≡ m → Explained (fixed F) k us (conclude (verdict F k m) us rest)
   explain-verdict k us front rest b e l none h =
-      (refl, inr (record { front = front; rest = rest; split = e; long = l; says = rw h }))
+      (refl, inr (record { front = front; rest = rest; split = e; long = l; fault-is = rw h; some-fault = S .counted }))
   explain-verdict k us front rest b e l (some v) h = judged-so (k .fault v) refl
     where
       below : Below (F .base) front
@@ -94,7 +103,7 @@ module _ (F : Fixed) (S : Sensible F) where
 
       judged-so : (f : ℕ) → k .fault v ≡ f → Explained (fixed F) k us (conclude (judged v f) us rest)
       judged-so zero q = (front, e, record { long = l; below = below; means = h }, record { fits = fits; faultless = q })
-      judged-so (suc n) q = (refl, inr (record { front = front; rest = rest; split = e; long = l; says = rw (h, q) }))
+      judged-so (suc n) q = (refl, inr (record { front = front; rest = rest; split = e; long = l; fault-is = rw (h, q); some-fault = omega arith }))
 
   explain-cut : (k : Kind) (us : List ℕ) → Below (F .base) us → (o : Option (List ℕ × List ℕ)) → SplitSays (F .width (k .shape)) us o → Explained (fixed F) k us (readCut F k us o)
   explain-cut k us b none h = (refl, inl (record { short = h; number = refl }))
@@ -144,24 +153,17 @@ module _ (base : ℕ) (width : Shape → ℕ) (missing meaningless : ℕ) where
   pub literal-literal : Literal (literal base width missing meaningless)
   literal-literal s x v e = literal-says s x v (ltb x (values s)) refl e .0
 
-  pub literal-sensible : 0 < base → ((s : Shape) → values s ≤ base ^ width s) → Sensible (literal base width missing meaningless)
-  literal-sensible positive room =
+  pub literal-sensible : 0 < base → 0 < meaningless → ((s : Shape) → values s ≤ base ^ width s) → Sensible (literal base width missing meaningless)
+  literal-sensible positive counted room =
       record {
         positive = positive;
+        counted = counted;
         fits = λ s x v h e. let w = literal-says s x v (ltb x (values s)) refl e in rw (← (w .0)) (w .1);
         plain = λ s v h. rw (lt-ltb v (values s) h);
         room = room;
       }
 
 -- A refusal's number is never 0.
-pub fault-positive : (F : Fixed) → 0 < F .missing → 0 < F .meaningless → (k : Kind) (us : List ℕ) (n : ℕ) → Cut F k us n ⊎ Faulty F k us n → 0 < n
-fault-positive F c m k us n (inl h) = rw (h .number) c
-fault-positive F c m k us n (inr h) = judged-positive (F .meaning (k .shape) (number (F .base) (h .front))) (h .says)
-  where
-    value-positive : (v f : ℕ) → judged v f ≡ fault n → 0 < n
-    value-positive v zero e = let z : _≡_ {A = ℕ} 0 1 = cc in absurd (omega arith)
-    value-positive v (suc f) e = let z : suc f ≡ n = cc in omega arith
-
-    judged-positive : (o : Option ℕ) → verdict F k o ≡ fault n → 0 < n
-    judged-positive none e = let z : F .meaningless ≡ n = cc in omega arith
-    judged-positive (some v) e = value-positive v (k .fault v) e
+pub fault-positive : (F : Fixed) → 0 < F .missing → (k : Kind) (us : List ℕ) (n : ℕ) → Cut F k us n ⊎ Faulty F k us n → 0 < n
+fault-positive F c k us n (inl h) = rw (h .number) c
+fault-positive F c k us n (inr h) = h .some-fault

@@ -5,13 +5,16 @@ use Prim.Native.Nat.{ℕ}
 use mathlib.Core.List.{List, [], _++_, append-nil}
 use Rattle.format.specs.Digits.{Below}
 use Rattle.format.specs.Kind.{Kind, Field}
-use Rattle.format.specs.Codec.{found, refused, spellAll}
-use Rattle.format.specs.FixedCodec.{Fixed, fixed, spellFixed, Cut, Faulty}
+use Rattle.format.specs.Codec.{found, refused}
+use Rattle.format.specs.Spelling.{spellAll}
+use Rattle.format.specs.FixedCodec.{Fixed, spellFixed, Cut, Faulty}
+use Rattle.format.specs.FixedReading.{fixed}
 use Rattle.format.specs.FixedCodecLaws.{Sensible, Literal, fixed-lawful, fixed-writes, fixed-strict}
 use Rattle.format.specs.Script.{Script, end, Asks}
 use Rattle.format.specs.ScriptLaws.{Halt}
 use Rattle.format.specs.Format.{script}
-use Rattle.format.specs.Layout.{Layout, parse, encode}
+use Rattle.format.specs.Layout.{Layout, encode}
+use Rattle.format.specs.Parse.{parse}
 use Rattle.format.specs.LayoutLaws.{complete-written, sound-strict, unique, refusal, spelled-strict, spelled-all, asks-allowed}
 
 -- A field that is refused: the fields before it are the units before it, and it is cut or at fault.

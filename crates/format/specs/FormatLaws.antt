@@ -6,7 +6,8 @@ use Prim.Native.Nat.{ℕ, zero, suc}
 use mathlib.Core.List.{List, [], _∷_, _++_, append-assoc}
 use lib.ListN.{length}
 use Rattle.format.specs.Kind.{Field}
-use Rattle.format.specs.Script.{Script, Ends}
+use Rattle.format.specs.Script.{Script}
+use Rattle.format.specs.ScriptRun.{Ends}
 use Rattle.format.specs.Format.{Format, known, one, pair, many, pick, lead, via, Each, Made, fields, fieldsMany, ofSome, script, scriptMany}
 
 -- The script of a layout, given the fields of a good value, goes on with that value.

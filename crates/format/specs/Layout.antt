@@ -1,4 +1,25 @@
 -- Layouts of values, and what layouts are put together with. A layout says which values are good and which fields they have.
+--
+--   layout                  its fields                                        a value is good when
+--   field k                 one of kind k                                     the kind allows it
+--   nothing x               none                                              it is x
+--   f & g                   those of f, then those of g                       both of its parts are
+--   f ▸ g                   those of f, then those of g of the first part     both of its parts are
+--   either t f g            those of f where t holds, otherwise those of g    it is good there
+--   when t f x              those of f where t holds, otherwise none          it is good for f there, otherwise it is x
+--   repeat n f              n times those of f                                it is a list of n elements, each good for f
+--   threaded n each next s  n times those of `each` of a state: s at first,   it is a list of n elements, each good where it stands
+--                           then what `next` makes of state and element
+--   counted k f             a count of kind k, then so many times those of f  its length is an allowed count, and each element good
+--   constant k x f          one of kind k, which can only be x, then f's      x is allowed, and it is good for f
+--   renamed f make apart    those of f                                        it is made of a value that is good for f
+--   case f make apart       those of f                                        the same, where it can be taken apart
+--   implied f g told        those of f, then those of g                       what it tells is good for f, and it is good for g of that
+--   oneOf k first rest      a tag of kind k, then those of the alternative    its own tag is allowed, and it is good for that alternative (Choice.antt)
+--                           that has the tag
+--   optional k yes no f     a flag of kind k, then f's where it is `yes`      it is none, or some value that is good for f (Choice.antt)
+--
+-- The arguments left out here are proofs: that what is made can be taken apart, that a value tells its count, tag or flag.
 use mathlib.Core.Path.{_≡_, sym, ap}
 use mathlib.Core.Bool.{Bool, cond}
 use mathlib.Core.Option.{Option, some}
@@ -6,9 +27,8 @@ use Prim.Native.Nat.{ℕ}
 use mathlib.Core.List.{List}
 use lib.ListN.{length}
 use Rattle.format.specs.Kind.{Kind, Allowed}
-use Rattle.format.specs.Codec.{Codec, Spelling, spellAll, Outcome}
-use Rattle.format.specs.Script.{end, run}
-use Rattle.format.specs.Format.{Format, known, one, pair, many, lead, pick, via, Each, Made, fields, script}
+use Rattle.format.specs.Spelling.{Spelling, spellAll}
+use Rattle.format.specs.Format.{Format, known, one, pair, many, lead, pick, via, Each, Made, fields}
 use Rattle.format.specs.FormatLaws.{each-length}
 
 infixr 30 _&_
@@ -20,10 +40,6 @@ pub record Layout (A : Type 0) : Type 1 where
 -- The units that lay out a value.
 abbrev pub encode : {A : Type 0} → Spelling → Layout A → A → List ℕ
 encode spell L a = spellAll spell (fields (L .format) a)
-
--- The value that units lay out, and what comes behind it; or the first field at which they are cut or at fault.
-abbrev pub parse : {A : Type 0} → Codec → Layout A → List ℕ → Outcome A
-parse C L us = run C (script (L .format) (λ a. end a)) us
 
 abbrev pub field : Kind → Layout ℕ
 field k = record { Good = Allowed k; format = one k }

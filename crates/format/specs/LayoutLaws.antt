@@ -5,12 +5,15 @@ use mathlib.Core.Logic.{_↔_}
 use Prim.Native.Nat.{ℕ}
 use mathlib.Core.List.{List, [], _∷_, _++_, append-nil}
 use Rattle.format.specs.Kind.{Kind, Field, Allowed}
-use Rattle.format.specs.Codec.{Codec, Lawful, Spelling, Writes, Strict, spellAll, Spelled, Outcome, found, refused}
-use Rattle.format.specs.Script.{Script, end, ask, Ends, Asks}
+use Rattle.format.specs.Codec.{Codec, Lawful, Writes, Strict, Spelled, Outcome, found, refused}
+use Rattle.format.specs.Spelling.{Spelling, spellAll}
+use Rattle.format.specs.Script.{Script, end, ask, Asks}
+use Rattle.format.specs.Parse.{parse}
+use Rattle.format.specs.ScriptRun.{Ends}
 use Rattle.format.specs.ScriptLaws.{Halt, Whole, Accounted, run-ends, run-asks, run-accounts}
 use Rattle.format.specs.Format.{fields, script}
 use Rattle.format.specs.FormatLaws.{ends-script, taken}
-use Rattle.format.specs.Layout.{Layout, encode, parse}
+use Rattle.format.specs.Layout.{Layout, encode}
 
 -- Every field is allowed by its own kind.
 abbrev pub AllAllowed : List Field → Type 0

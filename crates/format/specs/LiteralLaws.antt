@@ -12,7 +12,7 @@ use borrow.Author.Tests.{lt-ltb}
 use Rattle.format.specs.Digits.{number}
 use Rattle.format.specs.Kind.{Shape, Kind, values, Allowed}
 use Rattle.format.specs.Codec.{found, refused}
-use Rattle.format.specs.FixedCodec.{fixed, literal, splitAt, judged, verdict, conclude}
+use Rattle.format.specs.FixedReading.{fixed, literal, splitAt, judged, verdict, conclude}
 use Rattle.format.specs.FixedCodecLaws.{splitAt-append, splitAt-short}
 
 -- The number under which a field of this kind with this number is refused, 0 where it is allowed: a number that is no value of the field has a fault

@@ -8,12 +8,15 @@ use lib.ListN.{length, length-append}
 use Rattle.format.specs.Digits.{Below}
 use Rattle.format.specs.Kind.{Kind, Field}
 use Rattle.format.specs.Codec.{Codec, Outcome, found, refused, andThen}
-use Rattle.format.specs.FixedCodec.{Fixed, fixed, spellFixed}
+use Rattle.format.specs.FixedCodec.{Fixed, spellFixed}
+use Rattle.format.specs.FixedReading.{fixed}
 use Rattle.format.specs.FixedCodecLaws.{Sensible, Literal}
-use Rattle.format.specs.Script.{Script, end, ask, run, Ends}
+use Rattle.format.specs.Script.{Script, end, ask}
+use Rattle.format.specs.Parse.{parse}
+use Rattle.format.specs.ScriptRun.{run, Ends}
 use Rattle.format.specs.Format.{Format, known, one, pair, many, pick, lead, via, fields, script, scriptMany}
 use Rattle.format.specs.FormatLaws.{Taken, taken}
-use Rattle.format.specs.Layout.{Layout, parse, encode, field, either, threaded, renamed, case, implied, _▸_}
+use Rattle.format.specs.Layout.{Layout, encode, field, either, threaded, renamed, case, implied, _▸_}
 use Rattle.format.specs.FixedLayoutLaws.{parsed-good}
 
 -- ---- outcomes

@@ -5,9 +5,9 @@ use Prim.Native.Nat.{ℕ, _+_}
 use mathlib.Core.List.{List, _++_}
 use lib.Dec.{leb}
 use lib.ListN.{length, take, drop}
-use Rattle.format.specs.Kind.{Kind}
 use Rattle.format.specs.Codec.{Outcome, found, refused}
-use Rattle.format.specs.FixedCodec.{Fixed, fixed, spellFixed}
+use Rattle.format.specs.FixedCodec.{Fixed, spellFixed}
+use Rattle.format.specs.FixedReading.{fixed}
 use Rattle.format.specs.Script.{Script, end, ask}
 use Rattle.format.specs.Format.{script}
 use Rattle.format.specs.Layout.{Layout}

@@ -3,23 +3,27 @@
 use mathlib.Core.Path.{_≡_, refl, sym, ap, ap₂, _∙_, subst}
 use mathlib.Core.Bool.{Bool, true, false, cond}
 use mathlib.Core.Option.{Option, none, some}
-use Prim.Native.Nat.{ℕ, zero, suc, _+_, _-_, _<_, _≤_}
+use Prim.Native.Nat.{ℕ, _+_, _-_, _<_, _≤_}
 use native.Mathlib.Nat as Nat
 use native.Mathlib.Omega.{arith}
-use mathlib.Core.List.{List, [], _∷_, _++_, append-nil}
+use mathlib.Core.List.{List, [], _∷_, _++_}
 use lib.Dec.{leb}
-use lib.ListN.{length, take, drop, length-append, length-drop}
+use lib.ListN.{length, drop, length-append, length-drop}
 use lib.Seq.{drop-drop, drop-at}
 use borrow.Author.Tests.{le-leb, lt-leb, leb-true}
 use Rattle.format.specs.Digits.{Below}
 use Rattle.format.specs.DigitsLaws.{length-digits}
 use Rattle.format.specs.Kind.{Kind, Field, Allowed}
-use Rattle.format.specs.Codec.{Outcome, found, refused, andThen, spellAll, Explained}
-use Rattle.format.specs.FixedCodec.{Fixed, fixed, spellFixed, splitAt, Verdict, value, fault, conclude, judge, readCut}
-use Rattle.format.specs.FixedCodecLaws.{Sensible, SplitSays, splitAt-says, fixed-lawful, below-behind}
-use Rattle.format.specs.Script.{Script, end, ask, run, Ends}
-use Rattle.format.specs.Format.{Format, fields, script}
-use Rattle.format.specs.Layout.{Layout, parse, encode}
+use Rattle.format.specs.Codec.{Outcome, found, refused, andThen, Explained}
+use Rattle.format.specs.Spelling.{spellAll}
+use Rattle.format.specs.FixedCodec.{Fixed, spellFixed}
+use Rattle.format.specs.FixedReading.{fixed, splitAt, Verdict, value, fault, conclude, judge, readCut}
+use Rattle.format.specs.FixedCodecLaws.{Sensible, SplitSays, splitAt-says, fixed-lawful}
+use Rattle.format.specs.Script.{Script, end, ask}
+use Rattle.format.specs.Parse.{parse}
+use Rattle.format.specs.ScriptRun.{run, Ends}
+use Rattle.format.specs.Format.{fields, script}
+use Rattle.format.specs.Layout.{Layout, encode}
 use Rattle.format.specs.LeafLaws.{below-drop}
 use Rattle.format.specs.ParsingLaws.{followed, followed-script, ended}
 use Rattle.format.specs.Pass.{Route, splice, put, Passed, onward, pass, _⟫_}

@@ -12,7 +12,8 @@ use Rattle.format.specs.DigitsLaws.{length-digits}
 use Rattle.format.specs.LeafLaws.{below-drop, field-below, field-add, digits-add}
 use Rattle.format.specs.Kind.{Kind}
 use Rattle.format.specs.Codec.{Outcome, found, refused}
-use Rattle.format.specs.FixedCodec.{fixed, spellFixed}
+use Rattle.format.specs.FixedCodec.{spellFixed}
+use Rattle.format.specs.FixedReading.{fixed}
 use Rattle.format.specs.Script.{Script, ask}
 use Rattle.format.specs.Format.{scriptMany}
 use Rattle.format.specs.Pass.{Route, splice, put, Passed, onward, pass}

@@ -4,7 +4,8 @@ use Prim.Native.Nat.{ℕ}
 use mathlib.Core.List.{List, [], _∷_, _++_, append-assoc}
 use Rattle.format.specs.Kind.{Kind, Field, Allowed}
 use Rattle.format.specs.Codec.{Codec, Lawful, Outcome, found, refused, andThen, Explained, Spelled}
-use Rattle.format.specs.Script.{Script, end, ask, run, Ends, Asks}
+use Rattle.format.specs.Script.{Script, end, ask, Asks}
+use Rattle.format.specs.ScriptRun.{run, Ends}
 
 -- Given these fields, run as the codec has them spelled, a script stops at a field of the kind k: the field is cut or at fault.
 pub record Halt {R : Type 0} (C : Codec) (s : Script R) (us : List ℕ) (n : ℕ) (at : List ℕ) : Type 0 where

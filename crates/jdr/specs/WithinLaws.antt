@@ -18,8 +18,9 @@ use Rattle.drawing.specs.String.{String}
 use Rattle.drawing.specs.Drawing.{Drawing}
 use Rattle.drawing.specs.TableDrawing.{drawingOfTable}
 use Rattle.drawing.specs.Order.{entries}
-use Rattle.drawing.specs.Answers.{ReadResult, readResult, Reads, Output, writeOutput, Writes, listed, listFrom}
-use Rattle.listing.specs.Lists.{Lists}
+use Rattle.drawing.specs.Answers.{ReadResult, Output, listed}
+use Rattle.promises.specs.Promises.{Reads, Writes, Lists}
+use Rattle.drawing.specs.Computed.{readResult, writeOutput, listFrom}
 use Rattle.laws.specs.AnswerLaws.{Accepted, read-accepts, read-gives, Writable, write-accepts, write-gives}
 use Rattle.laws.specs.CountLaws.{file-counts}
 use Rattle.jdr.specs.Within.{Within, FileWithin}

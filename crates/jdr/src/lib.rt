@@ -1,9 +1,6 @@
-// The calls of the library, for other programs: each with its contract, which decides its answer and all lent memory for every input. The numbers of
-// answers are 01's; the definitions are in crates/drawing/specs, and some contracts around them in crates/listing and crates/questions.
-ghost use Rattle.drawing.specs.Answers.{Reads, Checks, Writes};
-ghost use Rattle.listing.specs.Lists.{Lists};
-ghost use Rattle.questions.specs.PaintQuestion.{Paints};
-ghost use Rattle.questions.specs.TextQuestion.{Texts};
+// The calls of the library, for other programs: each with its contract, which decides its answer and all lent memory for every input. What each
+// promises stands in crates/promises/specs/Promises.antt, from top to bottom. The numbers of answers are 01's.
+ghost use Rattle.promises.specs.Promises.{Reads, Checks, Writes, Lists, Paints, Texts};
 ghost use mathlib.Core.Path.{_≡_};
 ghost use lib.ListN.{length};
 ghost use Rattle.drawing.specs.Questions.{shown};

@@ -3,7 +3,6 @@ use mathlib.Core.Path.{_≡_, refl}
 use mathlib.Core.Option.{none, some}
 use mathlib.Core.List.{List, [], _∷_, map}
 use Prim.Native.Nat.{ℕ}
-use lib.Ieee.{Float}
 use Rattle.drawing.specs.declared.Paint.{Paint}
 use Rattle.drawing.specs.declared.Paint.the-variants.{Transparent, Rgb, Cmyk, Grey, Hsb}
 use Rattle.drawing.specs.declared.PaintAnswer.the-variants.{Refused, Plain, Linear, Radial}
@@ -11,7 +10,7 @@ use Rattle.drawing.specs.declared.Which.the-variants.{Line, Fill, Text}
 use Rattle.drawing.specs.Questions.{float, paintGiven}
 use Rattle.jdr_c.specs.declared.Color.{Color}
 use Rattle.jdr_c.specs.declared.GivenPaint.{GivenPaint}
-use Rattle.jdr_c.specs.Values.{colorOf, paintStruct, partNumbered, paintAsked}
+use Rattle.jdr_c.specs.Values.{colorOf, paintStruct, partNumbered, paintComputed}
 
 -- Components by their bits, which do not matter here but for 0, which is +0.
 abbrev colored : ℕ → (a b c d e : ℕ) → Color
@@ -52,6 +51,6 @@ abbrev bodies : List ℕ
 bodies = 0 ∷ 0 ∷ 1 ∷ 97 ∷ 0 ∷ 0 ∷ 0 ∷ 0 ∷ 0 ∷ 0 ∷ 0 ∷ 0 ∷ 0 ∷ 0 ∷ 0 ∷ 0 ∷ 0 ∷ 0 ∷ 1 ∷ 0 ∷ []
 
 -- Part 3: of a table that is none, of a row that is not there, and of rows that are.
-no-part : (paintAsked contents [] 0 (partNumbered 3) ≡ Refused 16)
-    × (map (λ row. paintAsked contents bodies row (partNumbered 3)) (2 ∷ 1 ∷ 0 ∷ []) ≡ Refused 6 ∷ Refused 7 ∷ Refused 7 ∷ [])
+no-part : (paintComputed contents [] 0 (partNumbered 3) ≡ Refused 16)
+    × (map (λ row. paintComputed contents bodies row (partNumbered 3)) (2 ∷ 1 ∷ 0 ∷ []) ≡ Refused 6 ∷ Refused 7 ∷ Refused 7 ∷ [])
 no-part = (refl, refl)

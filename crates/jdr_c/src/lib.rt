@@ -1,9 +1,7 @@
 // The calls of `jdr` for programs in other languages, under names of C and with C's way of passing: a slice is a pointer and a length in elements, an
 // answer a struct by value. include/jdr.h declares them. Each has the contract of the call that it passes on to (`jdr_paint` the same, said of a struct),
 // and asks nothing of its inputs but what C cannot say: that a run is as long as it is said to be, and that one lent for writing overlaps no other.
-ghost use Rattle.drawing.specs.Answers.{Reads, Checks, Writes};
-ghost use Rattle.listing.specs.Lists.{Lists};
-ghost use Rattle.questions.specs.TextQuestion.{Texts};
+ghost use Rattle.promises.specs.Promises.{Reads, Checks, Writes, Lists, Texts};
 ghost use Rattle.jdr_c.specs.Values.{GivesPaint};
 use jdr::Answer;
 use jdr::TextAnswer;

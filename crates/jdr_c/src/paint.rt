@@ -2,7 +2,7 @@
 ghost use mathlib.Core.Path.{_≡_};
 ghost use mathlib.Core.Option.{none};
 ghost use Rattle.drawing.specs.Questions.{paintGiven};
-ghost use Rattle.jdr_c.specs.Values.{colorOf, paintStruct, partNumbered, paintAsked};
+ghost use Rattle.jdr_c.specs.Values.{colorOf, paintStruct, partNumbered, paintComputed};
 use crate::Color;
 use crate::GivenPaint;
 use drawing::Paint;
@@ -98,7 +98,7 @@ pub fn given(answer: PaintAnswer) -> GivenPaint
 
 // A part that no object has is judged like any other: the table, the row, the part.
 fn no_part(contents: &[u32], bodies: &[u32], row: u32) -> PaintAnswer
-    ensures { λ r. ⌜ r ≡ paintAsked (now (contents .entry)) (now (bodies .entry)) row none ⌝ }
+    ensures { λ r. ⌜ r ≡ paintComputed (now (contents .entry)) (now (bodies .entry)) row none ⌝ }
 {
     let checked = jdr::check(contents, bodies);
     if checked.number != 0 {
@@ -112,7 +112,7 @@ fn no_part(contents: &[u32], bodies: &[u32], row: u32) -> PaintAnswer
 
 // The question about the part of this number.
 pub fn asked(contents: &[u32], bodies: &[u32], row: u32, which: u32) -> PaintAnswer
-    ensures { λ r. ⌜ r ≡ paintAsked (now (contents .entry)) (now (bodies .entry)) row (partNumbered which) ⌝ }
+    ensures { λ r. ⌜ r ≡ paintComputed (now (contents .entry)) (now (bodies .entry)) row (partNumbered which) ⌝ }
 {
     if which == 0 {
         return jdr::paint(contents, bodies, row, Which::Line);

@@ -1,15 +1,14 @@
 -- Flags, bytes and integers are allowed in a range of numbers.
-use mathlib.Core.Path.{_≡_, refl, sym, ap, _∙_}
+use mathlib.Core.Path.{_≡_, refl, ap, _∙_}
 use mathlib.Core.Logic.{_⊎_, inl, inr}
-use mathlib.Core.Bool.{Bool, true, false, cond, _&&_}
+use mathlib.Core.Bool.{Bool, true, false, cond}
 use Prim.Native.Nat.{ℕ, _^_, _<_, _≤_}
 use native.Mathlib.Omega.{arith}
-use lib.Dec.{ltb, leb}
-use borrow.Author.Tests.{lt-ltb, le-ltb, le-leb, ltb-true}
+use lib.Dec.{ltb}
+use borrow.Author.Tests.{lt-ltb, le-ltb, le-leb}
 use mir.Syntax.{Width, w8, w32}
 use mir.Val.{toZ, hbits}
-use Rattle.format.specs.Kind.{Kind, Shape, size, values, byte, integer, flag as flagShape}
-use Rattle.format.specs.LiteralLaws.{faultOf}
+use Rattle.format.specs.Kind.{Kind, Shape, size, values, byte, integer}
 use Rattle.drawing.specs.Fields.{flag, unless, inRange, byteIn, integerIn}
 use Rattle.drawing.specs.FieldLaws.{in-range}
 use Rattle.passes.specs.Ranged.{Ranged}

@@ -17,13 +17,15 @@ use Rattle.drawing.specs.Codecs.{byteFields}
 use Rattle.format.specs.FixedCodecLaws.{below-spelled}
 use Rattle.laws.specs.CodecLaws.{bytes-sensible}
 use Rattle.format.specs.Format.{fields}
-use Rattle.drawing.specs.Drawing.{Drawing, outer, file as fileLayout, fileOf, Acceptable, Reading, drawing, refusal, drawingOf}
+use Rattle.drawing.specs.Drawing.{Drawing, outer, file as fileLayout, fileOf, Acceptable}
+use Rattle.drawing.specs.Reading.{Reading, drawing, refusal, drawingOf}
 use Rattle.laws.specs.DrawingLaws.{drawing-of-bytes, refusal-positive}
 use Rattle.drawing.specs.Table.{IsTable, headWords, contentsOf, bodiesOf}
 use Rattle.drawing.specs.TableDrawing.{drawingOfTable}
 use Rattle.laws.specs.TableLaws.{drawing-of-table, table-complete}
 use Rattle.laws.specs.OrderLaws.{contents-length}
-use Rattle.drawing.specs.Answers.{answer, rowsOf, wordCount, overwrite, ReadResult, roomFault, stored, readFrom, readResult, Output, written, writeFrom, writeOutput}
+use Rattle.drawing.specs.Answers.{answer, rowsOf, wordCount, overwrite, ReadResult, roomFault, stored, Output, written}
+use Rattle.drawing.specs.Computed.{readFrom, readResult, writeFrom, writeOutput}
 
 -- What stands at the beginning is what was put there.
 pub take-overwrite : (new buffer : List ℕ) (n : ℕ) → length new ≡ n → take n (overwrite new buffer) ≡ new

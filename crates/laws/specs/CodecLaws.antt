@@ -21,7 +21,7 @@ values-fit (stringChar last) = omega arith
 values-fit (chars n) = Nat.le-refl (256 ^ (2 * n))
 
 pub bytes-sensible : Sensible byteFields
-bytes-sensible = literal-sensible 256 size 2 5 (omega arith) values-fit
+bytes-sensible = literal-sensible 256 size 2 5 (omega arith) (omega arith) values-fit
 
 pub bytes-literal : Literal byteFields
 bytes-literal = literal-literal 256 size 2 5
@@ -37,7 +37,7 @@ words-hold n = rw (word-powers ((n + 3) / 4)) (Nat.pow-le-pow-right (omega arith
 
 pub words-sensible : Sensible wordFields
 words-sensible =
-    literal-sensible (2 ^ 32) (λ s. (size s + 3) / 4) 16 16 (omega arith) (λ s. Nat.le-trans (values-fit s) (words-hold (size s)))
+    literal-sensible (2 ^ 32) (λ s. (size s + 3) / 4) 16 16 (omega arith) (omega arith) (λ s. Nat.le-trans (values-fit s) (words-hold (size s)))
 
 pub words-literal : Literal wordFields
 words-literal = literal-literal (2 ^ 32) (λ s. (size s + 3) / 4) 16 16

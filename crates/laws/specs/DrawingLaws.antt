@@ -9,15 +9,17 @@ use lib.Dec.{ltb}
 use native.Mathlib.Omega.{arith}
 use borrow.Author.Tests.{ltb-true, ltb-false, lt-ltb, le-ltb}
 use Rattle.format.specs.Digits.{Below}
-use Rattle.format.specs.Codec.{Outcome, found, refused, spellAll}
+use Rattle.format.specs.Codec.{Outcome, found, refused}
+use Rattle.format.specs.Spelling.{spellAll}
 use Rattle.format.specs.FixedCodec.{spellFixed, Cut, Faulty}
-use Rattle.drawing.specs.Codecs.{bytes, byteFields}
+use Rattle.drawing.specs.Codecs.{byteFields}
+use Rattle.drawing.specs.Reading.{bytes, drawing, refusal, reading, drawingOf}
 use Rattle.format.specs.FixedCodecLaws.{fault-positive}
 use Rattle.laws.specs.CodecLaws.{bytes-sensible, bytes-literal}
-use Rattle.format.specs.Layout.{parse}
+use Rattle.format.specs.Parse.{parse}
 use Rattle.format.specs.FixedLayoutLaws.{parse-encoded, parse-encoded-alone, parsed-good, encode-unique, refused-stopped}
 use Rattle.drawing.specs.Limits.{lengthLimit}
-use Rattle.drawing.specs.Drawing.{Drawing, file, fileOf, Acceptable, drawing, refusal, reading, drawingOf}
+use Rattle.drawing.specs.Drawing.{Drawing, file, fileOf, Acceptable}
 use Rattle.drawing.specs.Refusal.{AtField, Trailing, Refused}
 
 -- No two drawings have the same file.
@@ -131,5 +133,5 @@ refusal-positive bs b n offset e = by (refusal-of-bytes bs b n offset .0 e)
   where
     by : Refused bs n offset → 0 < n
     by (inl h) = rw (h .number-is) (omega arith)
-    by (inr (inl h)) = fault-positive byteFields (omega arith) (omega arith) (h .kind) (h .back) n (h .at-fault)
+    by (inr (inl h)) = fault-positive byteFields (omega arith) (h .kind) (h .back) n (h .at-fault)
     by (inr (inr h)) = rw (h .number-is) (omega arith)

@@ -6,9 +6,10 @@ use mathlib.Core.List.{List}
 use lib.Dec.{eqb}
 use Rattle.format.specs.Kind.{Kind, Allowed}
 use Rattle.format.specs.Codec.{Outcome, found, refused, andThen}
-use Rattle.format.specs.Layout.{Layout, field, constant, renamed, parse, _&_, _▸_}
+use Rattle.format.specs.Layout.{Layout, field, constant, _&_, _▸_}
+use Rattle.format.specs.Parse.{parse}
 use Rattle.format.specs.ParsingLaws.{parse-field, parse-implied, parse-renamed, parse-pair, andThen-same}
-use Rattle.drawing.specs.Codecs.{bytes}
+use Rattle.drawing.specs.Reading.{bytes}
 use Rattle.drawing.specs.Limits.{depthLimit}
 use Rattle.drawing.specs.Fields.{magic, jdr, versionLength, versionChars, versionZero, charWhere}
 use Rattle.drawing.specs.FieldLaws.{magic-only, version-length-only, outer-only, version-back}

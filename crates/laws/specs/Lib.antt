@@ -14,6 +14,12 @@ pub mod OrderLaws
 pub mod CountLaws
 pub mod TableFileLaws
 pub mod EntryLaws
+pub mod WordLaws
+pub mod Standing
+pub mod StandingLaws
+pub mod RowBodies
+pub mod RowBodyLaws
+pub mod TextPlaceLaws
 pub mod AnswerLaws
 pub mod ParseLaws
 pub mod FileParseLaws

@@ -6,7 +6,7 @@ use mathlib.Core.List.{List, [], _∷_, _++_, append-assoc}
 use lib.ListN.{length}
 use Rattle.format.specs.Digits.{digits}
 use Rattle.format.specs.Kind.{Field}
-use Rattle.format.specs.Codec.{Spelling, spellAll}
+use Rattle.format.specs.Spelling.{Spelling, spellAll}
 use Rattle.format.specs.FixedCodec.{spellFixed}
 use Rattle.format.specs.Format.{fields}
 use Rattle.format.specs.Layout.{Layout, repeat, encode}

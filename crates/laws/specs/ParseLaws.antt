@@ -1,10 +1,10 @@
 -- How objects parse from a file, from place to place: behind an allowed id, a leaf's body or a group's; in a group a count, the members and the end.
 use mathlib.Core.Path.{_≡_, refl, sym, ap, _∙_}
 use mathlib.Core.Bool.{Bool, true, false, cond}
-use Prim.Native.Nat.{ℕ, zero, suc, _+_, _-_, _≤_, _<_}
+use Prim.Native.Nat.{ℕ, zero, suc, _+_, _-_, _≤_}
 use Prim.Native.Char.{code}
 use native.Mathlib.Omega.{arith}
-use mathlib.Core.List.{List, [], _∷_, _++_}
+use mathlib.Core.List.{List, _++_}
 use lib.Dec.{eqb, ltb}
 use lib.ListN.{length, drop, length-append, length-drop}
 use lib.Seq.{drop-at, drop-drop}
@@ -15,13 +15,15 @@ use Rattle.format.specs.LeafLaws.{below-drop}
 use Rattle.format.specs.Codec.{Outcome, found, refused, andThen}
 use Rattle.format.specs.FixedCodec.{spellFixed}
 use Rattle.format.specs.FixedLayoutLaws.{parsed-good}
-use Rattle.format.specs.Layout.{Layout, field, either, renamed, counted, repeat, parse, encode}
+use Rattle.format.specs.Layout.{Layout, field, either, renamed, counted, repeat, encode}
+use Rattle.format.specs.Parse.{parse}
 use Rattle.format.specs.FormatLaws.{each-length}
-use Rattle.format.specs.ParsingLaws.{andThen-andThen, parse-field, parse-implied, parse-either, parse-case, parse-renamed, parse-pair, parse-threaded, andThen-same}
-use Rattle.drawing.specs.Codecs.{bytes, byteFields}
-use Rattle.drawing.specs.Fields.{memberCount, objectFault, objectId, unless}
+use Rattle.format.specs.ParsingLaws.{andThen-andThen, parse-field, parse-implied, parse-either, parse-case, parse-renamed, parse-pair, andThen-same}
+use Rattle.drawing.specs.Codecs.{byteFields}
+use Rattle.drawing.specs.Reading.{bytes}
+use Rattle.drawing.specs.Fields.{memberCount, objectFault, objectId}
 use Rattle.drawing.specs.String.{String}
-use Rattle.drawing.specs.Object.{Leaf, Object, leaf, group, Objects, ofList, listOf}
+use Rattle.drawing.specs.Object.{Object, leaf, group, Objects, ofList, listOf}
 use Rattle.drawing.specs.ObjectId.{objectLetter, leafOf, groupOf}
 use Rattle.drawing.specs.ObjectLaws.{list-of-list, leaf-tells, object-tells}
 use Rattle.drawing.specs.LeafLayout.{isLeaf, leafBody, objectEnd}

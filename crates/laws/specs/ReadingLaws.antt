@@ -4,16 +4,17 @@ use mathlib.Core.Bool.{Bool, true, false, cond}
 use mathlib.Core.Option.{Option, none, some}
 use Prim.Native.Nat.{ℕ, zero, suc, _+_, _≤_}
 use native.Mathlib.Omega.{arith}
-use mathlib.Core.List.{List, _++_}
+use mathlib.Core.List.{List}
 use lib.Dec.{ltb}
 use lib.ListN.{length, take, drop, length-append}
 use lib.Seq.{take-at, drop-at}
 use Rattle.format.specs.Digits.{number}
 use Rattle.format.specs.Kind.{Kind, size, values}
 use Rattle.format.specs.Codec.{found}
-use Rattle.format.specs.FixedCodec.{splitAt, judged, conclude, verdict, readCut}
+use Rattle.format.specs.FixedReading.{splitAt, judged, conclude, verdict, readCut}
 use Rattle.format.specs.FixedCodecLaws.{SplitSays, splitAt-says}
-use Rattle.drawing.specs.Codecs.{bytes, byteFields}
+use Rattle.drawing.specs.Codecs.{byteFields}
+use Rattle.drawing.specs.Reading.{bytes}
 
 pub record Read (k : Kind) (us : List ℕ) (x : ℕ) (rest : List ℕ) : Type 0 where
   pub there : size (k .shape) ≤ length us

@@ -1,11 +1,11 @@
 -- A value has at most as many words in a table as bytes in a file, and at most four bytes for each word.
-use Prim.Native.Nat.{ℕ, _+_, _*_, _/_, _^_, _≤_}
+use Prim.Native.Nat.{_+_, _*_, _/_, _^_, _≤_}
 use native.Mathlib.Omega.{arith}
 use mathlib.Core.List.{List, [], _∷_}
 use lib.ListN.{length, length-append}
 use Rattle.format.specs.DigitsLaws.{length-digits}
 use Rattle.format.specs.Kind.{Field, size}
-use Rattle.format.specs.Codec.{spellAll}
+use Rattle.format.specs.Spelling.{spellAll}
 use Rattle.format.specs.FixedCodec.{spellFixed}
 use Rattle.format.specs.Format.{fields}
 use Rattle.format.specs.Layout.{Layout, encode}

@@ -10,7 +10,7 @@ use Rattle.format.specs.Digits.{Below}
 use Rattle.drawing.specs.Limits.{lengthLimit}
 use Rattle.drawing.specs.Drawing.{Drawing}
 use Rattle.drawing.specs.Table.{IsTable}
-use Rattle.drawing.specs.TableDrawing.{met, drawingOfTable}
+use Rattle.drawing.specs.TableDrawing.{drawingOfTable}
 use Rattle.laws.specs.TableLaws.{no-drawing}
 use Rattle.laws.specs.CountLaws.{table-limits}
 

@@ -11,10 +11,11 @@ use native.Mathlib.Omega.{arith}
 use borrow.Author.Tests.{leb-true, le-leb}
 use Rattle.format.specs.Digits.{Below}
 use Rattle.format.specs.Codec.{Outcome, found, refused}
-use Rattle.drawing.specs.Codecs.{words, wordFields}
+use Rattle.drawing.specs.Codecs.{wordFields}
+use Rattle.drawing.specs.Reading.{words}
 use Rattle.format.specs.FixedCodecLaws.{below-behind}
 use Rattle.laws.specs.CodecLaws.{words-sensible, words-literal}
-use Rattle.format.specs.Layout.{parse}
+use Rattle.format.specs.Parse.{parse}
 use Rattle.format.specs.FixedLayoutLaws.{parse-encoded, parsed-good}
 use Rattle.drawing.specs.Limits.{lengthLimit, depthLimit}
 use Rattle.drawing.specs.FieldLaws.{and-both}

@@ -12,7 +12,7 @@ use native.Mathlib.Nat as Nat
 use native.Mathlib.Numerals.{add-one}
 use borrow.Author.Tests.{eq-eqb}
 use Rattle.format.specs.Kind.{Allowed}
-use Rattle.format.specs.Codec.{spellAll}
+use Rattle.format.specs.Spelling.{spellAll}
 use Rattle.format.specs.FixedCodec.{spellFixed}
 use Rattle.drawing.specs.Codecs.{wordFields}
 use Rattle.format.specs.Format.{Each, fields}

@@ -9,11 +9,13 @@ use native.Mathlib.Omega.{arith}
 use native.Mathlib.Nat as Nat
 use Rattle.format.specs.Digits.{Below}
 use Rattle.format.specs.Codec.{Outcome, found, refused}
-use Rattle.format.specs.FixedCodec.{splitAt}
-use Rattle.drawing.specs.Codecs.{words, wordFields}
+use Rattle.format.specs.FixedReading.{splitAt}
+use Rattle.drawing.specs.Codecs.{wordFields}
+use Rattle.drawing.specs.Reading.{words}
 use Rattle.format.specs.FixedCodecLaws.{SplitSays, splitAt-says, below-behind}
 use Rattle.laws.specs.CodecLaws.{words-sensible, words-literal}
-use Rattle.format.specs.Layout.{Layout, parse}
+use Rattle.format.specs.Layout.{Layout}
+use Rattle.format.specs.Parse.{parse}
 use Rattle.format.specs.FixedLayoutLaws.{parse-encoded, parsed-good}
 use Rattle.drawing.specs.Table.{wordsOf, row}
 use Rattle.laws.specs.EqualLaws.{equal-refl, equal-true}

@@ -7,9 +7,7 @@ use passes::Pass;
 use passes::runs::run;
 use styles::line_style::line_style;
 use styles::paint::paint;
-ghost use lib.Dec.{leb};
-ghost use Rattle.format.specs.Layout.{when};
-ghost use Rattle.drawing.specs.Path.{path, outline, point, origin};
+ghost use Rattle.drawing.specs.Path.{path, outline};
 ghost use Rattle.passes.specs.Carries.{Begins, Carries};
 
 // A count, the start from 1.3 on, and as many segments.

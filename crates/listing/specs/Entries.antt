@@ -10,7 +10,7 @@ use Rattle.drawing.specs.Drawing.{Drawing}
 use Rattle.drawing.specs.Table.{IsTable}
 use Rattle.drawing.specs.Order.{objectsOf, descriptionOf, entriesFrom, entries}
 use Rattle.table.specs.Walks.{Writes}
-use Rattle.places.specs.RowBodies.{RowBody}
+use Rattle.laws.specs.RowBodies.{RowBody}
 use Rattle.places.specs.Rows.{TableHere}
 
 -- Whether the object of a row has this description.

@@ -8,19 +8,15 @@ use lib.ListN.{length, take, drop, set, getD, length-append}
 use lib.Seq.{set-split}
 use Rattle.format.specs.Pass.{put}
 use Rattle.format.specs.PassLaws.{put-fits, put-short}
-use Rattle.drawing.specs.Limits.{lengthLimit}
 use Rattle.drawing.specs.String.{String, equal}
 use Rattle.drawing.specs.Object.{Object}
 use Rattle.drawing.specs.Drawing.{Drawing, outer}
-use Rattle.drawing.specs.Table.{IsTable, headWords}
+use Rattle.drawing.specs.Table.{IsTable}
 use Rattle.drawing.specs.Order.{objectsOf, descriptionOf, entriesFrom, entries}
 use Rattle.drawing.specs.Answers.{rowsOf}
-use Rattle.laws.specs.CountLaws.{table-limits}
-use Rattle.laws.specs.OrderLaws.{contents-length}
 use Rattle.laws.specs.TableLaws.{table-unique}
 use Rattle.table.specs.WriteLaws.{nothing-written, put-written, both-written, same-written}
-use Rattle.places.specs.RowBodies.{RowBody}
-use Rattle.places.specs.RowBodyLaws.{row-body, drop-objects, no-objects}
+use Rattle.laws.specs.RowBodyLaws.{drop-objects, no-objects}
 use Rattle.places.specs.Rows.{TableHere}
 use Rattle.places.specs.RowLaws.{object-here}
 use Rattle.listing.specs.Entries.{Labels, entryOf, Entered, Gathering, Enters}

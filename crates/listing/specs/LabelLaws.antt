@@ -9,15 +9,14 @@ use lib.ListN.{length, take, drop, getD}
 use lib.Seq.{drop-drop, take-at}
 use borrow.Author.Tests.{ne-eqb, eqb-true, eqb-false}
 use Rattle.drawing.specs.String.{string, equal}
-use Rattle.drawing.specs.Object.{Object, leaf, group}
-use Rattle.drawing.specs.LeafLayout.{objectEnd}
+use Rattle.drawing.specs.Object.{Object}
 use Rattle.drawing.specs.Table.{wordsOf, startIn}
 use Rattle.drawing.specs.Order.{descriptionOf}
 use Rattle.laws.specs.EqualLaws.{equal-refl, equal-true}
-use Rattle.places.specs.RowBodies.{ownWords, RowBody}
-use Rattle.places.specs.WordLaws.{string-words, early-end}
+use Rattle.laws.specs.RowBodies.{ownWords, RowBody}
+use Rattle.laws.specs.WordLaws.{string-words, early-end}
 use Rattle.places.specs.Rows.{Describes}
-use Rattle.places.specs.PlaceLaws.{first-word}
+use Rattle.laws.specs.StandingLaws.{first-word}
 
 equal-not : (xs ys : List ℕ) → (xs ≡ ys → ⊥) → false ≡ equal xs ys
 equal-not xs ys other = by (equal xs ys) refl
@@ -25,11 +24,6 @@ equal-not xs ys other = by (equal xs ys) refl
     by : (t : Bool) → equal xs ys ≡ t → false ≡ equal xs ys
     by true is = absurd (other (equal-true xs ys is))
     by false is = sym is
-
--- The end of a row's object is good.
-pub end-good : (c bs : List ℕ) (v r : ℕ) (o : Object) → RowBody c bs v r o → objectEnd v .Good (descriptionOf o)
-end-good c bs v r (leaf l d) row = row .good .1
-end-good c bs v r (group os d) row = row .good .1
 
 module _ (c bs : List ℕ) (v r : ℕ) (label : List ℕ) where
   -- Below 1.2 every description is empty.

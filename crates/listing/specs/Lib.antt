@@ -1,7 +1,6 @@
 -- The rows whose objects have a label, and what the listing answers.
 pub mod Entries
 pub mod EntryLaws
-pub mod Lists
 pub mod CharLaws
 pub mod LabelLaws
 pub mod ListLaws

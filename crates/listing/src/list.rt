@@ -2,7 +2,7 @@
 use crate::entries::entries;
 use drawing::Answer;
 use table::answers::check;
-ghost use Rattle.listing.specs.Lists.{Lists};
+ghost use Rattle.promises.specs.Promises.{Lists};
 
 // The table is checked, and it is known that there is room for the entries, before the first of them is stored.
 pub fn list(contents: &[u32], words: &[u32], label: &[u16], list: &mut [u32]) -> Answer

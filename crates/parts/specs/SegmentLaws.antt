@@ -11,7 +11,8 @@ use lib.Dec.{eqb}
 use lib.ListN.{length, drop, getD}
 use borrow.Author.Tests.{eq-eqb}
 use Rattle.format.specs.Kind.{size, double}
-use Rattle.format.specs.FixedCodec.{fixed, spellFixed}
+use Rattle.format.specs.FixedCodec.{spellFixed}
+use Rattle.format.specs.FixedReading.{fixed}
 use Rattle.format.specs.LiteralLaws.{read-value}
 use Rattle.format.specs.Script.{Script, ask}
 use Rattle.format.specs.Format.{script}
@@ -24,13 +25,13 @@ use Rattle.fields.specs.Letters.{segmentLetter}
 use Rattle.passes.specs.declared.Pass.{Pass}
 use Rattle.passes.specs.declared.Took.{Took}
 use Rattle.passes.specs.Routes.{route, baseOf, widthOf}
-use Rattle.passes.specs.Passes.{behind, resumed, refusalOf, Ready}
+use Rattle.passes.specs.Passes.{behind, refusalOf, Ready}
 use Rattle.passes.specs.FieldLaws.{behind-going, behind-gone, source-width}
 use Rattle.passes.specs.Runs.{RunGone, RunShort, RunWide, Ran, Runs}
 use Rattle.passes.specs.RunCarryLaws.{run-runs, doubles-laid}
 use Rattle.passes.specs.Carries.{Came, Asked, Carried, Laid}
 use Rattle.parts.specs.declared.Ended.{Ended}
-use Rattle.parts.specs.Segments.{doublesBehind, before, doubleAt, Stands, Follows, EndsThere, EndPoint, pointOf, Ends}
+use Rattle.parts.specs.Segments.{doublesBehind, before, doubleAt, Stands, EndsThere, EndPoint, pointOf, Ends}
 
 -- ---- the script of a segment
 

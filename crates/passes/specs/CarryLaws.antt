@@ -9,7 +9,6 @@ use lib.ListN.{length}
 use borrow.Author.Tests.{le-ltb}
 use Rattle.format.specs.Kind.{Shape, Kind, size, values}
 use Rattle.format.specs.Script.{Script, ask}
-use Rattle.format.specs.Format.{one}
 use Rattle.passes.specs.declared.Pass.{Pass}
 use Rattle.passes.specs.declared.Took.{Took}
 use Rattle.passes.specs.Passes.{behind, Ready, refusalOf, judgedBy, judgedOf}

@@ -11,7 +11,8 @@ use borrow.Author.Tests.{lt-ltb}
 use Rattle.format.specs.Digits.{digits}
 use Rattle.format.specs.Kind.{Kind, size, values, Allowed}
 use Rattle.format.specs.Codec.{found, refused}
-use Rattle.format.specs.FixedCodec.{fixed, spellFixed}
+use Rattle.format.specs.FixedCodec.{spellFixed}
+use Rattle.format.specs.FixedReading.{fixed}
 use Rattle.format.specs.LiteralLaws.{faultOf, read-cut, read-fault, read-value}
 use Rattle.format.specs.Script.{Script, ask}
 use Rattle.format.specs.Pass.{put, onward, pass}

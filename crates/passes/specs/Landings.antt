@@ -9,10 +9,12 @@ use lib.ListN.{length, drop}
 use borrow.Author.Tests.{eqb-true, eq-eqb}
 use Rattle.format.specs.Digits.{Below}
 use Rattle.format.specs.Codec.{Outcome, found, refused, Explained}
-use Rattle.format.specs.FixedCodec.{fixed, spellFixed}
+use Rattle.format.specs.FixedCodec.{spellFixed}
+use Rattle.format.specs.FixedReading.{fixed}
 use Rattle.format.specs.FixedCodecLaws.{Sensible, fixed-lawful}
 use Rattle.format.specs.Format.{fields}
-use Rattle.format.specs.Layout.{Layout, field, encode, parse}
+use Rattle.format.specs.Layout.{Layout, field, encode}
+use Rattle.format.specs.Parse.{parse}
 use Rattle.format.specs.Kind.{Kind, byte}
 use Rattle.format.specs.Script.{Script, ask}
 use Rattle.format.specs.LeafLaws.{below-drop}
@@ -23,7 +25,7 @@ use Rattle.laws.specs.CodecLaws.{bytes-sensible, words-sensible}
 use Rattle.passes.specs.declared.Pass.{Pass}
 use Rattle.passes.specs.declared.Took.{Took}
 use Rattle.passes.specs.Routes.{route, baseOf}
-use Rattle.passes.specs.Passes.{behind, resumed}
+use Rattle.passes.specs.Passes.{resumed}
 use Rattle.passes.specs.Carries.{Asked, Laid}
 use Rattle.passes.specs.LayoutLaws.{field-laid}
 use Rattle.passes.specs.FieldLaws.{pass-goes}

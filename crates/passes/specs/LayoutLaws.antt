@@ -8,7 +8,7 @@ use Rattle.format.specs.Kind.{Kind}
 use Rattle.format.specs.Format.{Format, known, one, pair, lead, many, pick, via, script}
 use Rattle.passes.specs.declared.Pass.{Pass}
 use Rattle.passes.specs.declared.Took.{Took}
-use Rattle.passes.specs.Passes.{behind, Ready}
+use Rattle.passes.specs.Passes.{Ready}
 use Rattle.passes.specs.Carries.{Valued, Asked, Carried, Laid}
 use Rattle.passes.specs.CarryLaws.{field-carried, none-carried, both-carried}
 

@@ -7,7 +7,7 @@ use crate::source::width;
 use crate::target::put_value;
 ghost use mathlib.Core.Path.{_≡_};
 ghost use mathlib.Core.Bool.{true};
-ghost use Prim.Native.Nat.{_^_, _<_, _≤_};
+ghost use Prim.Native.Nat.{_^_, _<_};
 ghost use lib.ListN.{length};
 ghost use Rattle.passes.specs.Routes.{source, target};
 ghost use Rattle.passes.specs.Sizes.{isField};

@@ -10,14 +10,15 @@ use Rattle.drawing.specs.Fields.{flowFlag, memberCount}
 use Rattle.drawing.specs.String.{String, string}
 use Rattle.drawing.specs.Object.{Leaf, path, text, bitmap, Object, leaf, group, Objects, listOf}
 use Rattle.drawing.specs.ObjectId.{leafLetter}
-use Rattle.drawing.specs.LeafLayout.{pathCase, otherCases, leafBody, objectEnd}
+use Rattle.drawing.specs.LeafLayout.{pathCase, otherCases, objectEnd}
 use Rattle.drawing.specs.Table.{wordsOf, leafKind, groupOwn, kindIn, startIn}
 use Rattle.drawing.specs.TableDrawing.{letterOf}
 use Rattle.drawing.specs.Order.{descriptionOf}
-use Rattle.places.specs.RowBodies.{ownWords, RowBody}
-use Rattle.places.specs.WordLaws.{pair-words, late-end}
-use Rattle.places.specs.Places.{Here, Behind}
-use Rattle.places.specs.PlaceLaws.{here-as, here-behind, here-first, here-next, here-later, next-ends}
+use Rattle.laws.specs.RowBodies.{ownWords, RowBody}
+use Rattle.laws.specs.RowBodyLaws.{body-here, leaf-here}
+use Rattle.laws.specs.WordLaws.{pair-words, late-end}
+use Rattle.laws.specs.Standing.{Here, Behind}
+use Rattle.laws.specs.StandingLaws.{here-as, here-behind, here-first, here-next, here-later, next-ends}
 use Rattle.places.specs.Rows.{EndsAt, Describes}
 
 letter-of-leaf : (l : Leaf) → letterOf (leafKind l) ≡ leafLetter l
@@ -40,22 +41,16 @@ front-words v (leaf l d) = pair-words (told (pathCase v) (otherCases v) (leafLet
 front-words v (group os d) = pair-words (field memberCount) (objectEnd v) (length (listOf os)) d
 
 module _ (c bs : List ℕ) (v r : ℕ) where
-  -- An object's own fields stand where its row says.
-  body-here : (l : Leaf) (d : String) → RowBody c bs v r (leaf l d) → Here (leafBody v (leafLetter l)) bs (startIn c r) (l, d)
-  body-here l d row = record { good = row .good; rest = row .rest; stands = record { within = omega (arith, row .inside); words-are = row .words-are } }
-
+  -- A group's own fields stand where its row says.
   own-here : (os : Objects) (d : String) → RowBody c bs v r (group os d) → Here (groupOwn v) bs (startIn c r) (length (listOf os), d)
   own-here os d row = record { good = row .good; rest = row .rest; stands = record { within = omega (arith, row .inside); words-are = row .words-are } }
-
-  pub leaf-here : (l : Leaf) (d : String) → RowBody c bs v r (leaf l d) → Here (told (pathCase v) (otherCases v) (leafLetter l)) bs (startIn c r) l
-  leaf-here l d row = here-first (told (pathCase v) (otherCases v) (leafLetter l)) (objectEnd v) (body-here l d row)
 
   end-is : (o : Object) → startIn c r + length (ownWords v o) ≡ startIn c r + length (frontWords v o) + length (wordsOf (objectEnd v) (descriptionOf o))
   end-is o = omega (arith, ap length (front-words v o), length-append (frontWords v o) (wordsOf (objectEnd v) (descriptionOf o)))
 
   pub ends : (o : Object) → RowBody c bs v r o → EndsAt c bs v r o (startIn c r + length (frontWords v o))
   ends (leaf l d) row =
-      record { here = here-behind (body-here l d row) (frontWords v (leaf l d)) (objectEnd v) (front-words v (leaf l d)) (row .good .1); later = omega arith; end-is = end-is (leaf l d) }
+      record { here = here-behind (body-here c bs v r l d row) (frontWords v (leaf l d)) (objectEnd v) (front-words v (leaf l d)) (row .good .1); later = omega arith; end-is = end-is (leaf l d) }
   ends (group os d) row =
       record { here = here-behind (own-here os d row) (frontWords v (group os d)) (objectEnd v) (front-words v (group os d)) (row .good .1); later = omega arith; end-is = end-is (group os d) }
 
@@ -70,7 +65,7 @@ module _ (c bs : List ℕ) (v r : ℕ) where
   leaf-end (leaf l d) row other {letter} {q} letter-is behind =
       let same : letter ≡ leafLetter l = letter-is ∙ ap letterOf (row .kind-is) ∙ letter-of-leaf l in
       let is = subst (λ x. Behind (told (pathCase v) (otherCases v) x) bs (startIn c r) q) same behind in
-      subst (EndsAt c bs v r (leaf l d)) (sym (is l (leaf-here l d row))) (ends (leaf l d) row)
+      subst (EndsAt c bs v r (leaf l d)) (sym (is l (leaf-here c bs v r l d row))) (ends (leaf l d) row)
 
   -- Its description stands behind the flow frame flag.
   module _ (late : 2 ≤ v) (o : Object) {end : ℕ} (e : EndsAt c bs v r o end) where

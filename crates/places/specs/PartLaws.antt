@@ -8,8 +8,9 @@ use lib.ListN.{length, drop, length-append, length-drop}
 use Rattle.format.specs.Digits.{Below}
 use Rattle.format.specs.Codec.{found}
 use Rattle.format.specs.FixedLayoutLaws.{parse-encoded}
-use Rattle.format.specs.Layout.{Layout, parse}
-use Rattle.drawing.specs.Codecs as Codecs
+use Rattle.format.specs.Layout.{Layout}
+use Rattle.format.specs.Parse.{parse}
+use Rattle.drawing.specs.Reading as Reading
 use Rattle.drawing.specs.Codecs.{wordFields}
 use Rattle.drawing.specs.Table.{wordsOf}
 use Rattle.laws.specs.CodecLaws.{words-sensible, words-literal}
@@ -17,7 +18,8 @@ use Rattle.passes.specs.declared.Pass.{Pass}
 use Rattle.passes.specs.Carries.{Laid}
 use Rattle.passes.specs.Landings.{Landed, Lands, lands}
 use Rattle.places.specs.declared.Part.{Part}
-use Rattle.places.specs.Places.{Here, Passed}
+use Rattle.places.specs.Places.{Passed}
+use Rattle.laws.specs.Standing.{Here}
 use Rattle.places.specs.Parts.{layoutOf}
 
 pub this-part : {part part′ : Part} (v : ℕ) {t : Bool} {us m m′ : List ℕ} {p r : Pass} → part ≡ part′
@@ -30,7 +32,7 @@ passed {A} L {ws} {m} {m′} {p} {r} below going laid = record { is = is; inside
   where
     is : (a : A) → Here L ws (p .at) a → r .at ≡ p .at + length (wordsOf L a)
     is a here =
-        let parsed : parse Codecs.words L (drop (p .at) ws) ≡ found a (here .rest) = ap (parse Codecs.words L) (here .stands .words-are) ∙ parse-encoded wordFields words-sensible words-literal L a (here .good) (here .rest) in
+        let parsed : parse Reading.words L (drop (p .at) ws) ≡ found a (here .rest) = ap (parse Reading.words L) (here .stands .words-are) ∙ parse-encoded wordFields words-sensible words-literal L a (here .good) (here .rest) in
         let landed : Landed L true ws m m′ p r a (here .rest) = subst (Lands L true ws m m′ p r) parsed (lands L true below going (here .stands .within) laid) in
         let long : length ws - p .at ≡ length (wordsOf L a) + length (here .rest) = sym (length-drop (p .at) ws) ∙ ap length (here .stands .words-are) ∙ length-append (wordsOf L a) (here .rest) in
         omega (arith, landed .at-is, here .stands .within)

@@ -11,11 +11,13 @@ use Rattle.drawing.specs.Drawing.{Drawing, outer}
 use Rattle.drawing.specs.Table.{headWords}
 use Rattle.drawing.specs.TableDrawing.{drawingOfTable}
 use Rattle.drawing.specs.Order.{objectsOf}
-use Rattle.drawing.specs.Answers.{rowsOf, checkFrom, Checks}
+use Rattle.drawing.specs.Answers.{rowsOf}
+use Rattle.drawing.specs.Computed.{checkFrom}
+use Rattle.promises.specs.Promises.{Checks}
 use Rattle.laws.specs.CountLaws.{table-limits}
 use Rattle.laws.specs.OrderLaws.{contents-length}
-use Rattle.places.specs.RowBodies.{RowBody}
-use Rattle.places.specs.RowBodyLaws.{row-body}
+use Rattle.laws.specs.RowBodies.{RowBody}
+use Rattle.laws.specs.RowBodyLaws.{row-body}
 use Rattle.places.specs.Rows.{TableHere, HasRow}
 
 -- A table that is checked with 0 has a drawing, and its rows are counted.

@@ -11,8 +11,8 @@ use Rattle.drawing.specs.LeafLayout.{objectEnd}
 use Rattle.drawing.specs.Table.{wordsOf, rowWidth, startIn, IsTable}
 use Rattle.drawing.specs.Order.{descriptionOf}
 use Rattle.drawing.specs.Answers.{rowsOf}
-use Rattle.places.specs.RowBodies.{ownWords, RowBody}
-use Rattle.places.specs.Places.{Here}
+use Rattle.laws.specs.RowBodies.{ownWords, RowBody}
+use Rattle.laws.specs.Standing.{Here}
 
 -- A table that was checked, with its rows counted and its version read.
 pub record TableHere (contents bodies : List ℕ) (rows version : ℕ) : Type 0 where

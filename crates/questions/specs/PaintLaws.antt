@@ -22,8 +22,8 @@ use Rattle.drawing.specs.FieldLaws.{unless-zero, and-both}
 use Rattle.drawing.specs.Paint as P
 use Rattle.drawing.specs.Table.{wordsOf}
 use Rattle.laws.specs.WalkComplete.{one-word}
-use Rattle.places.specs.Places.{Here, Behind}
-use Rattle.places.specs.PlaceLaws.{here-behind, first-word, here-first, here-next}
+use Rattle.laws.specs.Standing.{Here, Behind}
+use Rattle.laws.specs.StandingLaws.{here-behind, first-word, here-first, here-next}
 use Rattle.questions.specs.PaintQuestion.{plainOf, plainAt, componentsOf, Number, Numbers, PlainHere}
 
 -- ---- a plain paint, by its letter

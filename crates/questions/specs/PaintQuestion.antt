@@ -1,5 +1,5 @@
--- What `paint` promises; and how the paint that stands at a place is read.
-use mathlib.Core.Path.{_≡_, ap}
+-- How the paint question is answered, and how the paint that stands at a place is read.
+use mathlib.Core.Path.{_≡_}
 use mathlib.Core.Bool.{cond, not}
 use Prim.Native.Nat.{ℕ, _+_, _<_}
 use Prim.Native.Char.{code}
@@ -11,18 +11,9 @@ use Rattle.drawing.specs.declared.PaintAnswer.{PaintAnswer}
 use Rattle.drawing.specs.declared.Which.{Which}
 use Rattle.drawing.specs.Paint as P
 use Rattle.drawing.specs.Object.{Object}
-use Rattle.drawing.specs.Questions.{part, orRefusal, paintValue, paintPart, paintAnswer, paintGiven}
-use Rattle.places.specs.RowBodies.{RowBody}
-use Rattle.places.specs.Places.{Here}
-
--- The answer is `paintAnswer` (crates/drawing/specs/Questions.antt), for every two runs of words and every row; and what the enum's case says, the
--- number, the form, the plain paints and a gradient's integer, is what `paintGiven` says of that.
-pub record Paints (contents bodies : List ℕ) (row : ℕ) (which : Which) (r : PaintAnswer) : Type 0 where
-  pub says : r ≡ paintAnswer contents bodies row which
-  pub gives : paintGiven r ≡ paintGiven (paintAnswer contents bodies row which)
-
-pub paints : {contents bodies : List ℕ} {row : ℕ} {which : Which} {r : PaintAnswer} → r ≡ paintAnswer contents bodies row which → Paints contents bodies row which r
-paints e = record { says = e; gives = ap paintGiven e }
+use Rattle.drawing.specs.Questions.{part, orRefusal, paintValue, paintPart}
+use Rattle.laws.specs.RowBodies.{RowBody}
+use Rattle.laws.specs.Standing.{Here}
 
 -- The answer for the object of a row, in a table of this version.
 abbrev pub PaintOf : (contents bodies : List ℕ) → (version row : ℕ) → Which → PaintAnswer → Type 0

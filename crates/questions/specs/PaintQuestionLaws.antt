@@ -22,10 +22,11 @@ use Rattle.drawing.specs.Text as T
 use Rattle.drawing.specs.Object.{path, text, bitmap, Object, leaf, group}
 use Rattle.drawing.specs.Table.{kindIn, startIn}
 use Rattle.drawing.specs.Questions.{orRefusal, paintValue, paintPart}
-use Rattle.places.specs.RowBodies.{RowBody}
-use Rattle.places.specs.Places.{Here, Behind, Holds}
-use Rattle.places.specs.PlaceLaws.{here-as, here-first, here-next}
-use Rattle.places.specs.EndLaws.{leaf-here}
+use Rattle.laws.specs.RowBodies.{RowBody}
+use Rattle.places.specs.Places.{Holds}
+use Rattle.laws.specs.Standing.{Here, Behind}
+use Rattle.laws.specs.StandingLaws.{here-as, here-first, here-next}
+use Rattle.laws.specs.RowBodyLaws.{leaf-here}
 use Rattle.questions.specs.PaintQuestion.{PaintRead}
 use Rattle.questions.specs.TextLaws.{of-text, text-paint}
 

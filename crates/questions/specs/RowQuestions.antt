@@ -11,11 +11,13 @@ use Rattle.drawing.specs.Object.{Object}
 use Rattle.drawing.specs.Drawing.{Drawing, outer}
 use Rattle.drawing.specs.TableDrawing.{drawingOfTable}
 use Rattle.drawing.specs.Order.{objectsOf}
-use Rattle.drawing.specs.Answers.{rowsOf, checkFrom, Checks}
-use Rattle.drawing.specs.Questions.{refusal, orRefusal, partAt, partIn}
+use Rattle.drawing.specs.Answers.{rowsOf}
+use Rattle.drawing.specs.Computed.{checkFrom, partIn}
+use Rattle.promises.specs.Promises.{Checks}
+use Rattle.drawing.specs.Questions.{refusal, orRefusal, partAt}
 use Rattle.laws.specs.TableLaws.{drawing-of-table}
-use Rattle.places.specs.RowBodies.{RowBody}
-use Rattle.places.specs.RowBodyLaws.{row-object, no-row, version-word}
+use Rattle.laws.specs.RowBodies.{RowBody}
+use Rattle.laws.specs.RowBodyLaws.{row-object, no-row, version-word}
 use Rattle.places.specs.Rows.{TableHere, HasRow}
 use Rattle.places.specs.RowLaws.{checked-drawing, object-here, row-here}
 

@@ -1,16 +1,11 @@
 -- Where the fields of a row's text stand, and the chars of its strings.
 use mathlib.Core.Path.{_≡_, refl, sym, ap, ap₂, _∙_}
 use mathlib.Core.Option.{Option, none, some, Option·map}
-use Prim.Native.Nat.{ℕ, suc, _+_, _-_, _<_, _≤_}
+use Prim.Native.Nat.{ℕ, _+_, _-_, _<_, _≤_}
 use native.Mathlib.Omega.{arith}
-use mathlib.Core.List.{List, [], _∷_, _++_, append-assoc}
+use mathlib.Core.List.{List, []}
 use lib.ListN.{length, getD}
-use Rattle.format.specs.Kind.{Field}
-use Rattle.format.specs.Codec.{spellAll}
-use Rattle.format.specs.FixedCodec.{spellFixed}
-use Rattle.format.specs.Format.{fields}
 use Rattle.format.specs.Layout.{Layout, _&_}
-use Rattle.drawing.specs.Codecs.{wordFields}
 use Rattle.drawing.specs.declared.Span.{Span}
 use Rattle.drawing.specs.declared.TextAnswer.{TextAnswer}
 use Rattle.drawing.specs.Limits.{lengthLimit}
@@ -21,15 +16,14 @@ use Rattle.drawing.specs.Text as T
 use Rattle.drawing.specs.Object.{path, text, bitmap, Object, leaf, group}
 use Rattle.drawing.specs.ObjectId.{textOf}
 use Rattle.drawing.specs.Table.{wordsOf, kindIn, startIn}
-use Rattle.drawing.specs.Questions.{orRefusal, leafPart, span, alternativeSpan, textValue}
-use Rattle.places.specs.declared.Part.the-variants.{BeforeAlternative}
-use Rattle.places.specs.RowBodies.{RowBody}
-use Rattle.places.specs.WordLaws.{string-words}
-use Rattle.places.specs.Places.{Here, Behind, Holds}
-use Rattle.places.specs.PlaceLaws.{here-as, here-behind, first-word, here-first, here-next, here-later, next-ends}
-use Rattle.places.specs.Parts.{layoutOf}
-use Rattle.places.specs.EndLaws.{leaf-here}
-use Rattle.questions.specs.TextQuestion.{noText, CharsRead, alternativeIn, AlternativeRead}
+use Rattle.drawing.specs.Questions.{orRefusal, leafPart, span, beforeText, alternativeSpan, noText, textValue}
+use Rattle.laws.specs.RowBodies.{RowBody}
+use Rattle.laws.specs.WordLaws.{string-words}
+use Rattle.places.specs.Places.{Holds}
+use Rattle.laws.specs.Standing.{Here, Behind}
+use Rattle.laws.specs.StandingLaws.{first-word, here-first, here-next}
+use Rattle.laws.specs.TextPlaceLaws.{latexFront, latexParts, front-length, latex-here, text-here}
+use Rattle.questions.specs.TextQuestion.{CharsRead, alternativeIn, AlternativeRead}
 
 -- ---- strings
 
@@ -37,57 +31,27 @@ use Rattle.questions.specs.TextQuestion.{noText, CharsRead, alternativeI
 pub length-first : (least : ℕ) {ws : List ℕ} {at : ℕ} {s : String} → Here (string least) ws at s → (at < length ws) × (getD ws at 0 ≡ length s)
 length-first least {s = s} here = first-word here (string-words least s (here .good))
 
--- Where the chars of the last string begin.
-chars-begin : (at long n : ℕ) {behind size : ℕ} → at ≤ behind → behind + size ≡ at + long → size ≡ suc n → behind + 1 ≡ at + (long - n)
-chars-begin at long n later ends size-is = omega arith
-
 -- ---- LaTeX fields
-
-regroup : (a b c d : List Field) (x y : Field) (s : List Field) → a ++ (b ++ (c ++ (d ++ (x ∷ y ∷ s)))) ≡ (a ++ (b ++ (c ++ (d ++ (x ∷ y ∷ []))))) ++ s
-regroup a b c d x y s = simp append-assoc
-
-abbrev before : Layout (String × (String × (String × (String × (ℕ × ℕ)))))
-before = layoutOf BeforeAlternative 0
 
 module _ {ws : List ℕ} {at : ℕ} where
   pub latex-inside : (o : Option T.Latex) → Here (ifFlag T.latex) ws at o → at < length ws
   latex-inside none here = first-word here refl .0
   latex-inside (some l) here = first-word here refl .0
 
-  -- The alternative stands behind the flag and the fields before it, and ends all of them.
-  module _ (l : T.Latex) (here : Here (ifFlag T.latex) ws at (some l)) where
-    abbrev parts : (String × (String × (String × (String × (ℕ × ℕ))))) × String
-    parts = ((l .family, (l .series, (l .shape, (l .size, (l .horizontal, l .vertical))))), l .alternative)
+  -- The alternative stands behind the flag and the fields before it.
+  module _ (l : T.Latex) (here : Here (ifFlag T.latex) ws at (some l)) {alternative : ℕ} (is : Behind latexFront ws (at + 1) alternative) where
+    pub alternative-here : Here (string 0) ws alternative (l .alternative)
+    alternative-here = here-next latexFront (string 0) (latex-here l here) is
 
-    latex-words : wordsOf (ifFlag T.latex) (some l) ≡ 1 ∷ wordsOf (before & string 0) parts
-    latex-words =
-        let f = fields (string 0 .format) in
-        ap (λ fs. 1 ∷ spellAll (spellFixed wordFields) fs) (regroup (f (l .family)) (f (l .series)) (f (l .shape)) (f (l .size)) _ _ (f (l .alternative)))
-
-    fields-here : Here (before & string 0) ws (at + 1) parts
-    fields-here =
-        let g = here .good .1 .1 .1 in
-        here-behind here (1 ∷ []) (before & string 0) latex-words ((g .0, (g .1 .0, (g .1 .1 .0, (g .1 .1 .1 .0, (g .1 .1 .1 .1 .0, g .1 .1 .1 .1 .1 .0))))), g .1 .1 .1 .1 .1 .1)
-
-    module _ {alternative : ℕ} (is : Behind before ws (at + 1) alternative) where
-      pub alternative-here : Here (string 0) ws alternative (l .alternative)
-      alternative-here = here-next before (string 0) fields-here is
-
-      alternative-begins : alternative + 1 ≡ at + (length (wordsOf (ifFlag T.latex) (some l)) - length (l .alternative))
-      alternative-begins =
-          flagged (length (wordsOf (before & string 0) parts)) (length (l .alternative)) (here-later before (string 0) fields-here is) (next-ends before (string 0) fields-here is)
-          (ap length (string-words 0 (l .alternative) (fields-here .good .1)))
-          ∙ ap (λ k. at + (k - length (l .alternative))) (sym (ap length latex-words))
-        where
-          flagged : (long n : ℕ) {size : ℕ} → at + 1 ≤ alternative → alternative + size ≡ at + 1 + long → size ≡ suc n → alternative + 1 ≡ at + (suc long - n)
-          flagged long n later ends size-is = chars-begin at (suc long) n (omega (arith, later)) (omega (arith, ends)) size-is
+    alternative-begins : alternative + 1 ≡ at + 1 + length (wordsOf latexFront (latexParts l .0)) + 1
+    alternative-begins = ap (λ n. n + 1) (is (latexParts l .0) (here-first latexFront (string 0) (latex-here l here)))
 
   -- What is read where the flag is 1, and where it is not.
-  pub alternative-read : getD ws at 0 ≡ 1 → {alternative : ℕ} → Behind before ws (at + 1) alternative → {r : Span} → CharsRead ws alternative r → AlternativeRead ws at r
+  pub alternative-read : getD ws at 0 ≡ 1 → {alternative : ℕ} → Behind latexFront ws (at + 1) alternative → {r : Span} → CharsRead ws alternative r → AlternativeRead ws at r
   alternative-read flag is reads none here = absurd (let z : _≡_ {A = ℕ} 0 1 = sym (first-word here refl .1) ∙ flag in omega arith)
   alternative-read flag is reads (some l) here = reads 0 (l .alternative) (alternative-here l here is) ∙ ap (λ n. span n (l .alternative)) (alternative-begins l here is)
 
-  pub alternative-inside : getD ws at 0 ≡ 1 → {alternative : ℕ} → Behind before ws (at + 1) alternative → (o : Option T.Latex) → Here (ifFlag T.latex) ws at o → alternative < length ws
+  pub alternative-inside : getD ws at 0 ≡ 1 → {alternative : ℕ} → Behind latexFront ws (at + 1) alternative → (o : Option T.Latex) → Here (ifFlag T.latex) ws at o → alternative < length ws
   alternative-inside flag is none here = absurd (let z : _≡_ {A = ℕ} 0 1 = sym (first-word here refl .1) ∙ flag in omega arith)
   alternative-inside flag is (some l) here = length-first 0 (alternative-here l here is) .0
 
@@ -117,11 +81,11 @@ module _ (c bs : List ℕ) (v r : ℕ) where
 
   -- Each field of a text stands behind the one before it.
   module _ {latex : ℕ} (latex-is : Behind T.font bs (startIn c r) latex) (t : T.Text) (d : String) (row : RowBody c bs v r (leaf (text t) d)) where
-    text-here : Here (T.font & behindFont) bs (startIn c r) (T.fontOf t, (t .latex, (t .paint, t .text)))
-    text-here = here-as (leaf-here c bs v r (text t) d row) (T.font & behindFont) refl (row .good .0 .1 .1)
+    font-is : latex ≡ startIn c r + length (wordsOf T.font (T.fontOf t))
+    font-is = latex-is (T.fontOf t) (here-first T.font behindFont (text-here c bs v r t d row))
 
     font-behind : Here behindFont bs latex (t .latex, (t .paint, t .text))
-    font-behind = here-next T.font behindFont text-here latex-is
+    font-behind = here-next T.font behindFont (text-here c bs v r t d row) latex-is
 
     pub text-latex : Here (ifFlag T.latex) bs latex (t .latex)
     text-latex = here-first (ifFlag T.latex) behindLatex font-behind
@@ -137,17 +101,12 @@ module _ (c bs : List ℕ) (v r : ℕ) where
         pub text-chars : Here (string 1) bs chars (t .text)
         text-chars = here-next (P.paint v) (string 1) latex-behind chars-are
 
-        text-begins : chars + 1 ≡ startIn c r + (length (wordsOf (T.text v) t) - length (t .text))
-        text-begins =
-            chars-begin (startIn c r) (length (wordsOf (T.font & behindFont) (T.fontOf t, (t .latex, (t .paint, t .text))))) (length (t .text))
-            (omega (arith, here-later T.font behindFont text-here latex-is, here-later (ifFlag T.latex) behindLatex font-behind paint-is, here-later (P.paint v) (string 1) latex-behind chars-are))
-            (next-ends (P.paint v) (string 1) latex-behind chars-are ∙ next-ends (ifFlag T.latex) behindLatex font-behind paint-is ∙ next-ends T.font behindFont text-here latex-is)
-            (ap length (string-words 1 (t .text) (text-chars .good)))
+        text-begins : chars + 1 ≡ startIn c r + beforeText v t
+        text-begins = omega (arith, font-is, paint-is (t .latex) text-latex, chars-are (t .paint) text-paint)
 
         alternative-same : (o : Option T.Latex) → alternativeIn latex o ≡ alternativeSpan (startIn c r) t o
         alternative-same none = refl
-        alternative-same (some l) =
-            ap (λ n. span (n + (length (wordsOf (ifFlag T.latex) (some l)) - length (l .alternative))) (l .alternative)) (latex-is (T.fontOf t) (here-first T.font behindFont text-here))
+        alternative-same (some l) = ap (λ n. span n (l .alternative)) (omega (arith, font-is, front-length l))
 
         text-spans : {a s : Span} → AlternativeRead bs latex a → CharsRead bs chars s → _≡_ {A = TextAnswer} (record { number = 0; alternative = a; text = s }) (answered (leaf (text t) d))
         text-spans alternative-is text-is =

@@ -5,8 +5,9 @@ use drawing::Which;
 use places::Part;
 use places::behind::behind;
 use table::answers::check;
+ghost use Rattle.promises.specs.Promises.{Paints};
 ghost use Rattle.places.specs.Rows.{HasRow};
-ghost use Rattle.questions.specs.PaintQuestion.{PaintOf, Paints};
+ghost use Rattle.questions.specs.PaintQuestion.{PaintOf};
 
 // A path begins with its line paint, and its fill paint stands behind that; a text's paint stands behind its font and its LaTeX fields.
 fn paint_of(contents: &[u32], words: &[u32], row: usize, version: u32, which: Which) -> PaintAnswer

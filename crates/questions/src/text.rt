@@ -7,12 +7,14 @@ use table::answers::check;
 ghost use mathlib.Core.Path.{_≡_};
 ghost use Prim.Native.Nat.{_<_, _≤_};
 ghost use lib.ListN.{length};
+ghost use Rattle.promises.specs.Promises.{Texts};
+ghost use Rattle.drawing.specs.Questions.{noText};
 ghost use Rattle.drawing.specs.Limits.{lengthLimit};
 ghost use Rattle.drawing.specs.Choices.{ifFlag};
 ghost use Rattle.drawing.specs.Text as T;
 ghost use Rattle.places.specs.Rows.{HasRow};
 ghost use Rattle.places.specs.Places.{Holds};
-ghost use Rattle.questions.specs.TextQuestion.{noText, CharsRead, AlternativeRead, TextOf, Texts};
+ghost use Rattle.questions.specs.TextQuestion.{CharsRead, AlternativeRead, TextOf};
 
 fn refused(number: u32) -> TextAnswer
     ensures { λ r. ⌜ r ≡ noText number ⌝ }

@@ -16,15 +16,16 @@ use Rattle.format.specs.Kind.{Kind, size}
 use Rattle.format.specs.LeafLaws.{below-drop, known-below}
 use Rattle.format.specs.Codec.{Outcome, found, refused, andThen, Explained}
 use Rattle.format.specs.FixedCodecLaws.{fixed-lawful}
-use Rattle.format.specs.Layout.{parse}
-use Rattle.drawing.specs.Codecs.{bytes, byteFields}
+use Rattle.format.specs.Parse.{parse}
+use Rattle.drawing.specs.Codecs.{byteFields}
+use Rattle.drawing.specs.Reading.{bytes, Reading, drawing, refusal, reading, drawingOf}
 use Rattle.drawing.specs.Limits.{lengthLimit, lastMinor, depthLimit}
 use Rattle.drawing.specs.Fields.{magic, versionLength, versionChars, versionZero, charWhere}
 use Rattle.drawing.specs.String.{String}
 use Rattle.drawing.specs.Object.{Objects}
 use Rattle.drawing.specs.ObjectLayout.{object, groupBody}
 use Rattle.drawing.specs.Settings.{Settings, settings}
-use Rattle.drawing.specs.Drawing.{Drawing, outerGroup, Reading, drawing, refusal, reading, drawingOf, file as fileLayout}
+use Rattle.drawing.specs.Drawing.{Drawing, outerGroup, file as fileLayout}
 use Rattle.laws.specs.CodecLaws.{bytes-sensible}
 use Rattle.laws.specs.ParseLaws.{Behind, behind}
 use Rattle.laws.specs.FileParseLaws.{outer-parse, file-parse, fromSettings, fromVersion}

@@ -9,14 +9,14 @@ use mir.Syntax.{w8}
 use mir.Val as Val
 use Rattle.format.specs.Digits.{number, digits}
 use Rattle.format.specs.Codec.{found, andThen}
-use Rattle.format.specs.Layout.{parse}
-use Rattle.drawing.specs.Codecs.{bytes}
+use Rattle.format.specs.Parse.{parse}
+use Rattle.drawing.specs.Reading.{bytes, drawing, drawingOf}
 use Rattle.drawing.specs.Limits.{lastMinor}
 use Rattle.drawing.specs.Fields.{versionZero}
 use Rattle.drawing.specs.Object.{group}
 use Rattle.drawing.specs.ObjectLayout.{object, groupBody}
 use Rattle.drawing.specs.Settings.{settings}
-use Rattle.drawing.specs.Drawing.{Drawing, drawing, drawingOf}
+use Rattle.drawing.specs.Drawing.{Drawing}
 use Rattle.drawing.specs.Table.{rowWidth, wordsOf, rows, rowsAll, bodies, contents, contentsOf, bodiesOf}
 use Rattle.drawing.specs.Answers.{overwrite, rowsOf, wordCount}
 use Rattle.scanner.specs.Scans.{wordsAt}

@@ -4,7 +4,8 @@ use Prim.Native.Nat.{ℕ, _*_, _≤_}
 use mathlib.Core.List.{List}
 use lib.ListN.{length}
 use Rattle.drawing.specs.Limits.{lengthLimit}
-use Rattle.drawing.specs.Drawing.{Drawing, drawing, drawingOf}
+use Rattle.drawing.specs.Drawing.{Drawing}
+use Rattle.drawing.specs.Reading.{drawing, drawingOf}
 use Rattle.drawing.specs.Table.{rowWidth, contentsOf, bodiesOf}
 use Rattle.drawing.specs.Answers.{overwrite, rowsOf, wordCount}
 

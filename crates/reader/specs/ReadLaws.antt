@@ -7,14 +7,18 @@ use mathlib.Core.List.{List, [], _∷_}
 use lib.Dec.{leb, ltb}
 use lib.ListN.{length}
 use borrow.Author.Tests.{le-leb, lt-leb, ltb-false}
+use Rattle.format.specs.Digits.{Below}
 use Rattle.format.specs.Codec.{Outcome, found, refused}
-use Rattle.format.specs.Layout.{parse}
-use Rattle.drawing.specs.Codecs.{bytes}
+use Rattle.format.specs.Parse.{parse}
+use Rattle.drawing.specs.Reading.{bytes, Reading, drawing, refusal, reading, drawingOf}
 use Rattle.drawing.specs.Limits.{lengthLimit}
 use Rattle.drawing.specs.Fields.{unless, orElse}
-use Rattle.drawing.specs.Drawing.{Drawing, Reading, drawing, refusal, reading, drawingOf, file as fileLayout}
+use Rattle.drawing.specs.Drawing.{Drawing, file as fileLayout}
 use Rattle.drawing.specs.Table.{rowWidth}
-use Rattle.drawing.specs.Answers.{answer, rowsOf, wordCount, roomFault, stored, readFrom, readResult, Reads}
+use Rattle.drawing.specs.Answers.{answer, rowsOf, wordCount, roomFault, stored}
+use Rattle.drawing.specs.Computed.{readFrom, readResult}
+use Rattle.promises.specs.Promises.{Reads}
+use Rattle.promises.specs.PromiseLaws.{reads}
 use Rattle.scanner.specs.declared.Scan.{Scan}
 use Rattle.scanner.specs.declared.Scan.the-variants as Scan
 use Rattle.scanner.specs.FileScans.{fileScan, ScannedFile}
@@ -56,8 +60,8 @@ module _ (file cs bs : List ℕ) where
   refused-reading n at (drawing d) e = let z : _≡_ {A = ℕ} 0 1 = cc in absurd (omega arith)
   refused-reading n at (refusal m o) e = let a : m ≡ n = cc in let b : o ≡ at = cc in ap₂ (λ x y. refusal x y) a b
 
-  pub read-refused : (n at : ℕ) → ScannedFile file (Scan.Refused n at) → Reads file cs bs (answer n at 0 0) cs bs
-  read-refused n at s = record { says = sym (ap (λ q. readFrom q (length file) cs bs) (refused-reading n at (drawingOf file) (s .says))) }
+  pub read-refused : Below 256 file → (n at : ℕ) → ScannedFile file (Scan.Refused n at) → Reads file cs bs (answer n at 0 0) cs bs
+  read-refused below n at s = reads below (sym (ap (λ q. readFrom q (length file) cs bs) (refused-reading n at (drawingOf file) (s .says))))
 
   pub refused-small : (n at : ℕ) → ScannedFile file (Scan.Refused n at) → at ≤ lengthLimit
   refused-small n at s = offset-small file n at (refused-reading n at (drawingOf file) (s .says))
@@ -92,27 +96,23 @@ module _ (file cs bs : List ℕ) where
         ∙ ap (λ r. answer n (length file) r words) (here .rows-are)
         ∙ ap (λ w. answer n (length file) (rowsOf (here .d)) w) (here .words-are)
 
-    pub short-rows : length cs / 4 < rows → Reads file cs bs (answer 14 at rows words) cs bs
-    short-rows h =
+    pub short-rows : Below 256 file → length cs / 4 < rows → Reads file cs bs (answer 14 at rows words) cs bs
+    short-rows below h =
         let lacks : leb (rowsOf (here .d)) (length cs / 4) ≡ false = lt-leb (rowsOf (here .d)) (length cs / 4) (subst (λ r. length cs / 4 < r) (here .rows-are) h) in
-        record {
-          says =
-              ap (λ a. record { answer = a; contents = cs; bodies = bs }) (same-answer 14)
-              ∙ sym (by-room 14 (ap (λ t. orElse (unless t 14) (unless (leb (wordCount (here .d)) (length bs)) 15)) lacks));
-        }
+        reads below
+        (ap (λ a. record { answer = a; contents = cs; bodies = bs }) (same-answer 14)
+        ∙ sym (by-room 14 (ap (λ t. orElse (unless t 14) (unless (leb (wordCount (here .d)) (length bs)) 15)) lacks)))
 
     module _ (rows-fit : rows ≤ length cs / 4) where
       enough-rows : leb (rowsOf (here .d)) (length cs / 4) ≡ true
       enough-rows = le-leb (rowsOf (here .d)) (length cs / 4) (subst (λ r. r ≤ length cs / 4) (here .rows-are) rows-fit)
 
-      pub short-words : length bs < words → Reads file cs bs (answer 15 at rows words) cs bs
-      short-words h =
+      pub short-words : Below 256 file → length bs < words → Reads file cs bs (answer 15 at rows words) cs bs
+      short-words below h =
           let lacks : leb (wordCount (here .d)) (length bs) ≡ false = lt-leb (wordCount (here .d)) (length bs) (subst (λ w. length bs < w) (here .words-are) h) in
-          record {
-            says =
-                ap (λ a. record { answer = a; contents = cs; bodies = bs }) (same-answer 15)
-                ∙ sym (by-room 15 (ap₂ (λ t u. orElse (unless t 14) (unless u 15)) enough-rows lacks));
-          }
+          reads below
+          (ap (λ a. record { answer = a; contents = cs; bodies = bs }) (same-answer 15)
+          ∙ sym (by-room 15 (ap₂ (λ t u. orElse (unless t 14) (unless u 15)) enough-rows lacks)))
 
       module _ (words-fit : words ≤ length bs) where
         enough-words : leb (wordCount (here .d)) (length bs) ≡ true
@@ -130,14 +130,12 @@ module _ (file cs bs : List ℕ) where
               words-few = subst (λ w. w ≤ lengthLimit) (here .words-are) (s .few .1);
             }
 
-        pub read-stored : (cs′ bs′ : List ℕ) → Filled file cs bs cs′ bs′ → Reads file cs bs (answer 0 at rows words) cs′ bs′
-        read-stored cs′ bs′ f =
-            record {
-              says =
-                  ap (λ a. record { answer = a; contents = cs′; bodies = bs′ }) (same-answer 0)
-                  ∙ ap₂ (λ c b. record { answer = answer 0 (length file) (rowsOf (here .d)) (wordCount (here .d)); contents = c; bodies = b }) (f .rows-are (here .d) (here .reads)) (f .words-are (here .d) (here .reads))
-                  ∙ sym (by-room 0 (ap₂ (λ t u. orElse (unless t 14) (unless u 15)) enough-rows enough-words));
-            }
+        pub read-stored : Below 256 file → (cs′ bs′ : List ℕ) → Filled file cs bs cs′ bs′ → Reads file cs bs (answer 0 at rows words) cs′ bs′
+        read-stored below cs′ bs′ f =
+            reads below
+            (ap (λ a. record { answer = a; contents = cs′; bodies = bs′ }) (same-answer 0)
+            ∙ ap₂ (λ c b. record { answer = answer 0 (length file) (rowsOf (here .d)) (wordCount (here .d)); contents = c; bodies = b }) (f .rows-are (here .d) (here .reads)) (f .words-are (here .d) (here .reads))
+            ∙ sym (by-room 0 (ap₂ (λ t u. orElse (unless t 14) (unless u 15)) enough-rows enough-words)))
 
     pub at-small : at ≤ lengthLimit
     at-small = subst (λ n. n ≤ lengthLimit) (sym (here .at-is)) (not-long file (here .d) (here .reads))

@@ -9,7 +9,7 @@ use store::objects::store_group;
 use store::words::store_word;
 ghost use Rattle.scanner.specs.declared.Scan.the-variants as Scan;
 ghost use Rattle.scanner.specs.FileScans.{ScannedFile};
-ghost use Rattle.drawing.specs.Answers.{Reads};
+ghost use Rattle.promises.specs.Promises.{Reads};
 ghost use Rattle.reader.specs.Fills.{Readable, Filled};
 
 // The table of a file that holds a drawing, where there is room for it.

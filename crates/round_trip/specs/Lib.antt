@@ -1,3 +1,4 @@
 -- Demand 2, stated of the calls, and proved from their contracts.
 pub mod RoundTrip
 pub mod RoundTripLaws
+pub mod ShownLaws

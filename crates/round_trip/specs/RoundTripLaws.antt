@@ -3,7 +3,7 @@ use mathlib.Core.Path.{_≡_, refl, sym, ap, subst, _∙_}
 use mathlib.Core.Option.{Option, none, some}
 use Prim.Native.Nat.{ℕ, _*_, _/_, _^_, _≤_}
 use native.Mathlib.Omega.{arith}
-use mathlib.Core.List.{List, [], _++_, append-nil}
+use mathlib.Core.List.{List, _++_, append-nil}
 use lib.ListN.{length, take, drop, drop-of-length-le, length-append}
 use Rattle.format.specs.Digits.{Below}
 use Rattle.format.specs.Format.{fields}
@@ -11,28 +11,36 @@ use Rattle.format.specs.FixedCodecLaws.{below-spelled}
 use Rattle.drawing.specs.declared.Answer.{Answer}
 use Rattle.drawing.specs.Codecs.{byteFields}
 use Rattle.drawing.specs.Drawing.{Drawing, outer, file as fileLayout, fileOf}
-use Rattle.drawing.specs.Table.{IsTable, headWords, contentsOf, bodiesOf}
+use Rattle.drawing.specs.Table.{headWords, contentsOf, bodiesOf}
 use Rattle.drawing.specs.TableDrawing.{drawingOfTable}
-use Rattle.drawing.specs.Answers.{answer, rowsOf, wordCount, overwrite, ReadResult, readResult, Reads, checkFrom, Checks, Output, writeOutput, Writes}
+use Rattle.drawing.specs.Answers.{answer, rowsOf, wordCount, overwrite, ReadResult, Output}
+use Rattle.drawing.specs.Computed.{readResult, checkFrom, writeOutput}
+use Rattle.promises.specs.Promises.{Reads, Checks, Writes}
+use Rattle.promises.specs.PromiseLaws.{reads}
 use Rattle.laws.specs.CodecLaws.{bytes-sensible}
 use Rattle.laws.specs.OrderLaws.{contents-length}
 use Rattle.laws.specs.TableLaws.{drawing-of-table}
 use Rattle.laws.specs.AnswerLaws.{Accepted, read-accepts, read-gives, Writable, write-accepts, write-gives, read-then-write, write-then-read}
-use Rattle.round_trip.specs.declared.Numbers.{Numbers}
 use Rattle.round_trip.specs.RoundTrip.{FileComesBack, TableComesBack, Gives, Given, Checked}
 
 -- ---- a file
 
-module _ {file contents bodies contents′ bodies′ : List ℕ} {a : Answer} (reads : Reads file contents bodies a contents′ bodies′) where
+module _ {file contents bodies contents′ bodies′ : List ℕ} {a : Answer} (read : Reads file contents bodies a contents′ bodies′) where
   read-is : readResult file contents bodies ≡ record { answer = a; contents = contents′; bodies = bodies′ }
-  read-is = sym (reads .says)
+  read-is = sym (read .says)
 
-  pub file-refused : (a .number ≡ 0 → ⊥) → {copy copy′ : List ℕ} → FileComesBack file copy copy′ (record { first = a .number; second = a .number })
-  file-refused gone = record { back = λ on room. absurd (gone on) }
+  pub file-refused : (a .number ≡ 0 → ⊥) → {copy : List ℕ} → FileComesBack file contents bodies copy contents′ bodies′ copy (record { first = a; second = a })
+  file-refused gone = record { reads = read; writes = λ on. absurd (gone on); refused = λ other. (refl, refl); back = λ on room. absurd (gone on) }
 
   pub file-back : Below 256 file → a .number ≡ 0 → {copy copy′ : List ℕ} {w : Answer} → Writes (take (4 * a .rows) contents′) (take (a .words) bodies′) copy w copy′
-      → FileComesBack file copy copy′ (record { first = 0; second = w .number })
-  file-back below on {copy} {copy′} {w} writes = record { back = λ zero-is room. (number-back room, ap (λ o. o .buffer) (both room)) }
+      → FileComesBack file contents bodies copy contents′ bodies′ copy′ (record { first = a; second = w })
+  file-back below on {copy} {copy′} {w} writes =
+      record {
+        reads = read;
+        writes = λ zero-is. writes;
+        refused = λ gone. absurd (gone on);
+        back = λ zero-is room. (ap (λ o. o .answer) (both room), ap (λ o. o .buffer) (both room));
+      }
     where
       both : length file ≤ length copy → _≡_ {A = Output} (record { answer = w; buffer = copy′ }) (record { answer = a; buffer = overwrite file copy })
       both room =
@@ -40,17 +48,14 @@ module _ {file contents bodies contents′ bodies′ : List ℕ} {a : Answer} (r
           ∙ subst (λ (r : ReadResult). writeOutput (take (4 * r .answer .rows) (r .contents)) (take (r .answer .words) (r .bodies)) copy ≡ record { answer = r .answer; buffer = overwrite file copy }) read-is
           (read-then-write file contents bodies copy below (ap (λ (r : ReadResult). r .answer .number) read-is ∙ on) room)
 
-      number-back : length file ≤ length copy → w .number ≡ 0
-      number-back room = ap (λ (o : Output). o .answer .number) (both room) ∙ on
-
 -- ---- a table
 
 module _ {contents bodies file file′ : List ℕ} {w : Answer} (writes : Writes contents bodies file w file′) where
   write-is : writeOutput contents bodies file ≡ record { answer = w; buffer = file′ }
   write-is = sym (writes .says)
 
-  pub table-refused : (w .number ≡ 0 → ⊥) → {c b c′ b′ : List ℕ} → TableComesBack contents bodies c b c′ b′ (record { first = w .number; second = w .number })
-  table-refused gone = record { back = λ on rows words. absurd (gone on) }
+  pub table-refused : (w .number ≡ 0 → ⊥) → {c b : List ℕ} → TableComesBack contents bodies file c b file′ c b (record { first = w; second = w })
+  table-refused gone = record { writes = writes; reads = λ on. absurd (gone on); refused = λ other. (refl, refl, refl); back = λ on rows words. absurd (gone on) }
 
   module _ (below : Below (2 ^ 32) bodies) (on : w .number ≡ 0) where
     writable : Writable contents bodies file
@@ -71,9 +76,15 @@ module _ {contents bodies file file′ : List ℕ} {w : Answer} (writes : Writes
         let sum = length-append (fileOf d) (drop (length (fileOf d)) file) in
         omega (arith, offset, long, sum)
 
-    pub table-back : {c b c′ b′ : List ℕ} {a : Answer} → Reads (take (w .offset) file′) c b a c′ b′ → TableComesBack contents bodies c b c′ b′ (record { first = 0; second = a .number })
+    pub table-back : {c b c′ b′ : List ℕ} {a : Answer} → Reads (take (w .offset) file′) c b a c′ b′ → TableComesBack contents bodies file c b file′ c′ b′ (record { first = w; second = a })
     unfolding d
-    table-back {c} {b} {c′} {b′} {a} reads = record { back = λ zero-is rows words. let r = both rows words in (ap (λ (r : ReadResult). r .answer .number) r ∙ on, ap (λ (r : ReadResult). r .contents) r, ap (λ (r : ReadResult). r .bodies) r) }
+    table-back {c} {b} {c′} {b′} {a} read =
+        record {
+          writes = writes;
+          reads = λ zero-is. read;
+          refused = λ gone. absurd (gone on);
+          back = λ zero-is rows words. let r = both rows words in (ap (λ (r : ReadResult). r .answer) r, ap (λ (r : ReadResult). r .contents) r, ap (λ (r : ReadResult). r .bodies) r);
+        }
       where
         both : length contents ≤ length c → length bodies ≤ length b → _≡_ {A = ReadResult} (record { answer = a; contents = c′; bodies = b′ }) (record { answer = w; contents = overwrite contents c; bodies = overwrite bodies b })
         both rows words =
@@ -83,7 +94,7 @@ module _ {contents bodies file file′ : List ℕ} {w : Answer} (writes : Writes
             let all-words : length bodies ≡ wordCount d = ap length (writable .is-table .bodies-are) in
             let rows-fit : w .rows ≤ length c / 4 = omega (arith, rows-are, all-rows, rows) in
             let words-fit : w .words ≤ length b = omega (arith, words-are, all-words, words) in
-            reads .says
+            read .says
             ∙ subst (λ (o : Output). readResult (take (o .answer .offset) (o .buffer)) c b ≡ record { answer = o .answer; contents = overwrite contents c; bodies = overwrite bodies b }) write-is
             (write-then-read contents bodies file c b below (ap (λ (o : Output). o .answer .number) write-is ∙ on)
             (subst (λ (o : Output). o .answer .rows ≤ length c / 4) (sym write-is) rows-fit)
@@ -98,7 +109,7 @@ overwrite-all new buffer same =
     ap (λ l. new ++ l) (drop-of-length-le buffer fits) ∙ append-nil new
 
 pub table-checked : {contents bodies : List ℕ} {a : Answer} → Below (2 ^ 32) bodies → Checks contents bodies a → Checked contents bodies a
-table-checked {contents} {bodies} {a} below checks = record { exactly = (there (drawingOfTable contents bodies) refl, back) }
+table-checked {contents} {bodies} {a} below checks = record { checks = checks; exactly = (there (drawingOfTable contents bodies) refl, back) }
   where
     there : (o : Option Drawing) → drawingOfTable contents bodies ≡ o → a .number ≡ 0 → Given contents bodies
     there none is on = let z : _≡_ {A = ℕ} 0 16 = sym on ∙ ap (λ (x : Answer). x .number) (checks .says ∙ ap checkFrom is) in absurd (omega arith)
@@ -110,21 +121,22 @@ table-checked {contents} {bodies} {a} below checks = record { exactly = (there (
         record {
           file = fileOf d;
           of-bytes = bytes;
-          gives = λ c b same-rows same-words.
+          gives = λ c b c′ b′ r same-rows same-words read.
               let accepted : Accepted (fileOf d) c b = record { drawing = d; acceptable = table .acceptable; file-is = refl; rows-fit = omega (arith, rows, same-rows); words-fit = omega (arith, words, same-words) } in
-              subst (Gives contents bodies) (sym (read-gives (fileOf d) c b bytes accepted))
-              (record {
-                accepted = refl;
-                rows-are = sym rows;
-                words-are = sym words;
-                contents-are = overwrite-all (contentsOf d) c (same-rows ∙ ap length (table .contents-are)) ∙ sym (table .contents-are);
-                bodies-are = overwrite-all (bodiesOf d) b (same-words ∙ ap length (table .bodies-are)) ∙ sym (table .bodies-are);
-              });
+              let result = read .says ∙ read-gives (fileOf d) c b bytes accepted in
+              record {
+                accepted = ap (λ (x : ReadResult). x .answer .number) result;
+                rows-are = ap (λ (x : ReadResult). 4 * x .answer .rows) result ∙ sym rows;
+                words-are = ap (λ (x : ReadResult). x .answer .words) result ∙ sym words;
+                contents-are = ap (λ (x : ReadResult). x .contents) result ∙ overwrite-all (contentsOf d) c (same-rows ∙ ap length (table .contents-are)) ∙ sym (table .contents-are);
+                bodies-are = ap (λ (x : ReadResult). x .bodies) result ∙ overwrite-all (bodiesOf d) b (same-words ∙ ap length (table .bodies-are)) ∙ sym (table .bodies-are);
+              };
         }
 
     back : Given contents bodies → a .number ≡ 0
     back given =
-        let here = given .gives contents bodies refl refl in
+        let computed = readResult (given .file) contents bodies in
+        let here = given .gives contents bodies (computed .contents) (computed .bodies) (computed .answer) refl refl (reads (given .of-bytes) refl) in
         let accepted = read-accepts (given .file) contents bodies (given .of-bytes) .0 (here .accepted) in
         let d = accepted .drawing in
         let result = read-gives (given .file) contents bodies (given .of-bytes) accepted in

@@ -1,12 +1,12 @@
 // Demand 2 of the calls themselves: what is read comes back when it is written, what is written comes back when it is read, and a table is checked
-// with 0 exactly when some file gives it. The contracts speak of the runs and of nothing else.
+// with 0 exactly when some file gives it. And the text to show of a row, found by two calls.
 use drawing::Answer;
-ghost use Rattle.round_trip.specs.RoundTrip.{FileComesBack, TableComesBack, Checked};
+ghost use Rattle.round_trip.specs.RoundTrip.{FileComesBack, TableComesBack, Checked, ShowsText};
 
-// The numbers of two calls, one after the other; the second is the first's where that refused.
-pub struct Numbers {
-    pub first: u32,
-    pub second: u32,
+// The answers of two calls, one after the other; the second is the first's where that refused.
+pub struct Both {
+    pub first: Answer,
+    pub second: Answer,
 }
 
 // Reads a file and writes it again.
@@ -15,22 +15,22 @@ pub fn read_then_write(
     contents: &mut [u32],
     bodies: &mut [u32],
     copy: &mut [u8],
-) -> Numbers
-    ensures { λ r. ⌜ FileComesBack (now (file .entry)) (now (copy .entry)) (now (copy .exit)) r ⌝ }
+) -> Both
+    ensures { λ r. ⌜ FileComesBack (now (file .entry)) (now (contents .entry)) (now (bodies .entry)) (now (copy .entry)) (now (contents .exit)) (now (bodies .exit)) (now (copy .exit)) r ⌝ }
 {
     let read = jdr::read(file, contents, bodies);
     if read.number != 0 {
-        return Numbers {
-            first: read.number,
-            second: read.number,
+        return Both {
+            first: read,
+            second: read,
         };
     }
     let row_words = 4 * read.rows as usize;
     let body_words = read.words as usize;
     let written = jdr::write(&contents[..row_words], &bodies[..body_words], copy);
-    Numbers {
-        first: 0,
-        second: written.number,
+    Both {
+        first: read,
+        second: written,
     }
 }
 
@@ -41,21 +41,21 @@ pub fn write_then_read(
     file: &mut [u8],
     rows: &mut [u32],
     words: &mut [u32],
-) -> Numbers
-    ensures { λ r. ⌜ TableComesBack (now (contents .entry)) (now (bodies .entry)) (now (rows .entry)) (now (words .entry)) (now (rows .exit)) (now (words .exit)) r ⌝ }
+) -> Both
+    ensures { λ r. ⌜ TableComesBack (now (contents .entry)) (now (bodies .entry)) (now (file .entry)) (now (rows .entry)) (now (words .entry)) (now (file .exit)) (now (rows .exit)) (now (words .exit)) r ⌝ }
 {
     let written = jdr::write(contents, bodies, file);
     if written.number != 0 {
-        return Numbers {
-            first: written.number,
-            second: written.number,
+        return Both {
+            first: written,
+            second: written,
         };
     }
     let length = written.offset as usize;
     let read = jdr::read(&file[..length], rows, words);
-    Numbers {
-        first: 0,
-        second: read.number,
+    Both {
+        first: written,
+        second: read,
     }
 }
 
@@ -64,4 +64,21 @@ pub fn checked(contents: &[u32], bodies: &[u32]) -> Answer
     ensures { λ r. ⌜ Checked (now (contents .entry)) (now (bodies .entry)) r ⌝ }
 {
     jdr::check(contents, bodies)
+}
+
+// The chars to show of a row's text, as a run of the bodies: no chars where there is no such text.
+pub fn shown_text<'a>(contents: &[u32], bodies: &'a [u32], row: u32) -> &'a [u32]
+    ensures { λ r. ⌜ ShowsText (now (contents .entry)) (now (bodies .entry)) row (now r) ⌝ }
+{
+    let asked = jdr::text(contents, bodies, row);
+    if asked.number != 0 {
+        return &bodies[..0];
+    }
+    let alternative = asked.alternative;
+    let plain = asked.text;
+    let from = alternative.start as usize;
+    let to = from + alternative.length as usize;
+    let start = plain.start as usize;
+    let end = start + plain.length as usize;
+    jdr::shown(&bodies[from..to], &bodies[start..end])
 }

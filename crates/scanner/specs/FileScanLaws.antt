@@ -13,8 +13,10 @@ use mir.Val.{Fits}
 use borrow.Author.Tests.{leb-true, le-ltb, lt-ltb}
 use Rattle.format.specs.Kind.{Allowed}
 use Rattle.format.specs.Codec.{Outcome, found, refused, andThen}
-use Rattle.format.specs.Layout.{Layout, parse}
-use Rattle.drawing.specs.Codecs.{bytes, byteFields}
+use Rattle.format.specs.Layout.{Layout}
+use Rattle.format.specs.Parse.{parse}
+use Rattle.drawing.specs.Codecs.{byteFields}
+use Rattle.drawing.specs.Reading.{bytes, refusal, reading, drawingOf}
 use Rattle.drawing.specs.Limits.{lengthLimit, lastMinor, depthLimit}
 use Rattle.drawing.specs.Fields.{versionChars, versionZero}
 use Rattle.drawing.specs.FieldLaws.{unless-zero}
@@ -22,7 +24,7 @@ use Rattle.drawing.specs.String.{String}
 use Rattle.drawing.specs.Object.{group, Objects}
 use Rattle.drawing.specs.ObjectLayout.{object, groupBody}
 use Rattle.drawing.specs.Settings.{Settings, settings}
-use Rattle.drawing.specs.Drawing.{outerGroup, refusal, reading, drawingOf, file as fileLayout}
+use Rattle.drawing.specs.Drawing.{outerGroup, file as fileLayout}
 use Rattle.drawing.specs.Table.{wordsOf, rowsAll, bodies}
 use Rattle.fields.specs.declared.Kind.the-variants as Kind
 use Rattle.fields.specs.declared.turn.Turn.{Turn}

@@ -4,12 +4,12 @@ use Prim.Native.Nat.{ℕ, suc, _+_, _-_, _≤_}
 use mathlib.Core.List.{List, [], _∷_}
 use lib.ListN.{length, drop}
 use Rattle.format.specs.Codec.{Outcome, found, refused}
-use Rattle.format.specs.Layout.{parse}
-use Rattle.drawing.specs.Codecs.{bytes}
+use Rattle.format.specs.Parse.{parse}
+use Rattle.drawing.specs.Reading.{bytes, Reading, drawing, refusal, reading, drawingOf}
 use Rattle.drawing.specs.Limits.{lengthLimit}
 use Rattle.drawing.specs.String.{String}
 use Rattle.drawing.specs.Object.{group, Objects}
-use Rattle.drawing.specs.Drawing.{outerGroup, Reading, drawing, refusal, reading, drawingOf}
+use Rattle.drawing.specs.Drawing.{outerGroup}
 use Rattle.drawing.specs.Table.{rowsAll, bodies}
 use Rattle.drawing.specs.Answers.{rowsOf, wordCount}
 use Rattle.laws.specs.FileParseLaws.{fromSettings, fromVersion}

@@ -8,9 +8,11 @@ use lib.ListN.{length, drop, getD, length-append}
 use mir.Syntax.{w8}
 use mir.Val.{Fits}
 use Rattle.format.specs.Codec.{Outcome, found, refused, andThen}
-use Rattle.format.specs.Layout.{repeat, parse}
+use Rattle.format.specs.Layout.{repeat}
+use Rattle.format.specs.Parse.{parse}
 use Rattle.format.specs.ParsingLaws.{parse-threaded}
-use Rattle.drawing.specs.Codecs.{bytes, byteFields}
+use Rattle.drawing.specs.Codecs.{byteFields}
+use Rattle.drawing.specs.Reading.{bytes}
 use Rattle.drawing.specs.Fields.{memberCount}
 use Rattle.drawing.specs.String.{String}
 use Rattle.drawing.specs.Object.{Object, group, Objects, ofList, listOf}

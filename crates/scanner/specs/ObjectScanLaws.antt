@@ -15,8 +15,10 @@ use Rattle.format.specs.LeafLaws.{below-drop, known-below}
 use Rattle.format.specs.Codec.{Outcome, found, refused, andThen}
 use Rattle.format.specs.FixedLayoutLaws.{parsed-good}
 use Rattle.format.specs.AlternativeLaws.{told-tells}
-use Rattle.format.specs.Layout.{Layout, parse}
-use Rattle.drawing.specs.Codecs.{bytes, byteFields}
+use Rattle.format.specs.Layout.{Layout}
+use Rattle.format.specs.Parse.{parse}
+use Rattle.drawing.specs.Codecs.{byteFields}
+use Rattle.drawing.specs.Reading.{bytes}
 use Rattle.drawing.specs.Fields.{objectId}
 use Rattle.drawing.specs.String.{String}
 use Rattle.drawing.specs.Object.{Leaf, leaf, group, Objects}

@@ -4,8 +4,9 @@ use Prim.Native.Nat.{ℕ, _+_, _-_, _≤_}
 use mathlib.Core.List.{List}
 use lib.ListN.{length, drop}
 use Rattle.format.specs.Codec.{Outcome, found, refused}
-use Rattle.format.specs.Layout.{Layout, parse, repeat}
-use Rattle.drawing.specs.Codecs.{bytes}
+use Rattle.format.specs.Layout.{Layout, repeat}
+use Rattle.format.specs.Parse.{parse}
+use Rattle.drawing.specs.Reading.{bytes}
 use Rattle.drawing.specs.Limits.{lengthLimit}
 use Rattle.drawing.specs.Object.{group, ofList}
 use Rattle.drawing.specs.ObjectLayout.{object, groupBody}

@@ -14,8 +14,10 @@ use Rattle.format.specs.FixedCodec.{spellFixed}
 use Rattle.format.specs.FixedCodecLaws.{fault-positive}
 use Rattle.format.specs.FixedLayoutLaws.{refused-stopped}
 use Rattle.format.specs.ParsingLaws.{parsed-length}
-use Rattle.format.specs.Layout.{Layout, parse, encode}
-use Rattle.drawing.specs.Codecs.{bytes, byteFields}
+use Rattle.format.specs.Layout.{Layout, encode}
+use Rattle.format.specs.Parse.{parse}
+use Rattle.drawing.specs.Codecs.{byteFields}
+use Rattle.drawing.specs.Reading.{bytes}
 use Rattle.drawing.specs.Table.{wordsOf}
 use Rattle.laws.specs.CodecLaws.{bytes-sensible, bytes-literal}
 use Rattle.laws.specs.SizeLaws.{words-few}
@@ -62,7 +64,7 @@ module _ {A : Type 0} {L : Layout A} {file m m′ : List ℕ} (known : (i : ℕ)
           }
       by (refused n place) e failed =
           let stopped = refused-stopped byteFields bytes-sensible bytes-literal L (drop at file) below n place .0 e in
-          let positive : 0 < n = fault-positive byteFields (omega arith) (omega arith) (stopped .kind) place n (stopped .at-fault) in
+          let positive : 0 < n = fault-positive byteFields (omega arith) (stopped .kind) place n (stopped .at-fault) in
           let gone : r ≡ Scan.Refused n (length file - length place) =
           is
           ∙ ap (λ n. scanBy n (p .at) (p .to) rows) (failed .number-is)

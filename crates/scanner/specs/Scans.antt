@@ -4,8 +4,9 @@ use Prim.Native.Nat.{ℕ, zero, suc, _+_, _-_, _≤_}
 use mathlib.Core.List.{List}
 use lib.ListN.{length, drop}
 use Rattle.format.specs.Codec.{Outcome, found, refused, andThen}
-use Rattle.format.specs.Layout.{Layout, parse}
-use Rattle.drawing.specs.Codecs.{bytes}
+use Rattle.format.specs.Layout.{Layout}
+use Rattle.format.specs.Parse.{parse}
+use Rattle.drawing.specs.Reading.{bytes}
 use Rattle.drawing.specs.Limits.{lengthLimit}
 use Rattle.drawing.specs.Table.{wordsOf}
 use Rattle.scanner.specs.declared.Scan.{Scan}

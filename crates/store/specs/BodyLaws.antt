@@ -8,9 +8,10 @@ use mir.Syntax.{w8}
 use mir.Val as Val
 use Rattle.format.specs.LeafLaws.{known-below}
 use Rattle.format.specs.Codec.{Outcome, found, refused, andThen}
-use Rattle.format.specs.Layout.{Layout, parse}
+use Rattle.format.specs.Layout.{Layout}
+use Rattle.format.specs.Parse.{parse}
 use Rattle.format.specs.Pass.{splice}
-use Rattle.drawing.specs.Codecs.{bytes}
+use Rattle.drawing.specs.Reading.{bytes}
 use Rattle.drawing.specs.Table.{wordsOf}
 use Rattle.passes.specs.declared.Pass.{Pass}
 use Rattle.passes.specs.Carries.{Laid}

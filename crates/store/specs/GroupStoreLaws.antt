@@ -14,8 +14,10 @@ use Rattle.format.specs.LeafLaws.{below-drop, known-below}
 use Rattle.format.specs.Codec.{Outcome, found, refused, andThen}
 use Rattle.format.specs.FormatLaws.{each-length}
 use Rattle.format.specs.FixedLayoutLaws.{parsed-good}
-use Rattle.format.specs.Layout.{parse, repeat}
-use Rattle.drawing.specs.Codecs.{bytes, byteFields}
+use Rattle.format.specs.Layout.{repeat}
+use Rattle.format.specs.Parse.{parse}
+use Rattle.drawing.specs.Codecs.{byteFields}
+use Rattle.drawing.specs.Reading.{bytes}
 use Rattle.drawing.specs.Limits.{lengthLimit}
 use Rattle.drawing.specs.Fields.{memberCount}
 use Rattle.drawing.specs.String.{String}

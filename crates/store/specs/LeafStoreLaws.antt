@@ -19,8 +19,9 @@ use Rattle.format.specs.Codec.{Outcome, found, refused, andThen, Explained}
 use Rattle.format.specs.FixedCodecLaws.{fixed-lawful}
 use Rattle.format.specs.FixedLayoutLaws.{parsed-good}
 use Rattle.format.specs.AlternativeLaws.{told-tells}
-use Rattle.format.specs.Layout.{parse}
-use Rattle.drawing.specs.Codecs.{bytes, byteFields}
+use Rattle.format.specs.Parse.{parse}
+use Rattle.drawing.specs.Codecs.{byteFields}
+use Rattle.drawing.specs.Reading.{bytes}
 use Rattle.drawing.specs.Limits.{lengthLimit}
 use Rattle.drawing.specs.Fields.{objectId}
 use Rattle.drawing.specs.String.{String}

@@ -9,9 +9,10 @@ use mir.Syntax.{w8}
 use mir.Val as Val
 use Rattle.format.specs.LeafLaws.{known-below}
 use Rattle.format.specs.Codec.{Outcome, found, refused, andThen}
-use Rattle.format.specs.Layout.{parse, repeat}
+use Rattle.format.specs.Layout.{repeat}
+use Rattle.format.specs.Parse.{parse}
 use Rattle.format.specs.ParsingLaws.{parse-threaded}
-use Rattle.drawing.specs.Codecs.{bytes}
+use Rattle.drawing.specs.Reading.{bytes}
 use Rattle.drawing.specs.Object.{Object, ofList}
 use Rattle.drawing.specs.ObjectLayout.{object}
 use Rattle.drawing.specs.Table.{rowWidth, rows, rowsAll, bodies, bodiesAll, contents, contentsAll}

@@ -8,12 +8,11 @@ use passes::Pass;
 ghost use mathlib.Core.Path.{_≡_};
 ghost use mathlib.Core.Bool.{_&&_};
 ghost use mathlib.Core.Option.{none};
-ghost use Prim.Native.Nat.{_≤_};
 ghost use lib.Dec.{eqb, leb};
-ghost use Rattle.format.specs.Layout.{field, repeat, when, _&_, _▸_};
+ghost use Rattle.format.specs.Layout.{field, when, _&_, _▸_};
 ghost use Rattle.drawing.specs.Fields as F;
 ghost use Rattle.drawing.specs.Choices.{ifFlag};
-ghost use Rattle.drawing.specs.Marker.{lastMarker, arrow, marker, markerBody};
+ghost use Rattle.drawing.specs.Marker.{lastMarker, arrow, marker};
 ghost use Rattle.drawing.specs.MarkerChain.{markers};
 ghost use Rattle.passes.specs.Carries.{Begins, Carries};
 

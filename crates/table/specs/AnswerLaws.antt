@@ -14,7 +14,10 @@ use Rattle.drawing.specs.Limits.{lengthLimit}
 use Rattle.drawing.specs.Fields.{unless}
 use Rattle.drawing.specs.Drawing.{Drawing, fileOf}
 use Rattle.drawing.specs.TableDrawing.{drawingOfTable}
-use Rattle.drawing.specs.Answers.{answer, rowsOf, wordCount, overwrite, noTable, checkFrom, Checks, written, writeFrom, writeOutput, Writes}
+use Rattle.drawing.specs.Answers.{answer, rowsOf, wordCount, overwrite, noTable, written}
+use Rattle.drawing.specs.Computed.{checkFrom, writeFrom, writeOutput}
+use Rattle.promises.specs.Promises.{Checks, Writes}
+use Rattle.promises.specs.PromiseLaws.{checks, writes}
 use Rattle.laws.specs.CountLaws.{file-counts, table-limits}
 use Rattle.laws.specs.TableLaws.{drawing-of-table}
 use Rattle.laws.specs.TableFileLaws.{refused-table}
@@ -23,7 +26,7 @@ use Rattle.table.specs.FileWalks.{Whole, TableComes, WalksTable}
 
 module _ (cs ws : List ℕ) (below : Below (2 ^ 32) ws) where
   pub long-refused : (4 * lengthLimit < length cs) ⊎ (lengthLimit < length ws) → {r : Answer} → r ≡ noTable → Checks cs ws r
-  long-refused long is = record { says = is ∙ sym (ap checkFrom (refused-table cs ws below long)) }
+  long-refused long is = checks below (is ∙ sym (ap checkFrom (refused-table cs ws below long)))
 
   module _ {m m′ : List ℕ} {r : Walked} (walks : WalksTable cs ws m m′ r) where
     -- A walk that went on has met a drawing, and one that did not has met none.
@@ -43,7 +46,7 @@ module _ (cs ws : List ℕ) (below : Below (2 ^ 32) ws) where
     walk-refused gone {a} is = by (drawingOfTable cs ws) refl (walks .comes)
       where
         by : (o : Option Drawing) → drawingOfTable cs ws ≡ o → TableComes m m′ r o → Checks cs ws a
-        by none none-is number = record { says = is ∙ sym (ap checkFrom none-is) }
+        by none none-is number = checks below (is ∙ sym (ap checkFrom none-is))
         by (some d) some-is whole = absurd (gone (whole .on))
 
     module _ (on : r .pass .number ≡ 0) where
@@ -58,59 +61,55 @@ module _ (cs ws : List ℕ) (below : Below (2 ^ 32) ws) where
       pub walk-checked : Checks cs ws (answer 0 (r .pass .to) (r .row) (r .pass .at))
       walk-checked =
           let here = has-met on in
-          record {
-            says =
-                ap (λ n. answer 0 n (r .row) (r .pass .at)) (here .whole .to-is)
-                ∙ ap₂ (λ n k. answer 0 (length (fileOf (here .d))) n k) (here .whole .rows-are) (here .whole .words-are)
-                ∙ sym (ap checkFrom (here .is));
-          }
+          checks below
+          (ap (λ n. answer 0 n (r .row) (r .pass .at)) (here .whole .to-is)
+          ∙ ap₂ (λ n k. answer 0 (length (fileOf (here .d))) n k) (here .whole .rows-are) (here .whole .words-are)
+          ∙ sym (ap checkFrom (here .is)))
 
   -- ---- writing
 
-  module _ {a : Answer} (checks : Checks cs ws a) where
+  module _ {a : Answer} (checked : Checks cs ws a) where
     record Checked : Type 0 where
       d : Drawing
       is : drawingOfTable cs ws ≡ some d
       answer-is : a ≡ answer 0 (length (fileOf d)) (rowsOf d) (wordCount d)
 
-    checked : a .number ≡ 0 → Checked
-    checked zero-is = by (drawingOfTable cs ws) refl
+    drawn : a .number ≡ 0 → Checked
+    drawn zero-is = by (drawingOfTable cs ws) refl
       where
         by : (o : Option Drawing) → drawingOfTable cs ws ≡ o → Checked
-        by none is = let z : _≡_ {A = ℕ} 0 16 = sym zero-is ∙ ap (λ x. x .number) (checks .says ∙ ap checkFrom is) in absurd (omega arith)
-        by (some d) is = record { d = d; is = is; answer-is = checks .says ∙ ap checkFrom is }
+        by none is = let z : _≡_ {A = ℕ} 0 16 = sym zero-is ∙ ap (λ x. x .number) (checked .says ∙ ap checkFrom is) in absurd (omega arith)
+        by (some d) is = record { d = d; is = is; answer-is = checked .says ∙ ap checkFrom is }
 
     pub write-refused : (file : List ℕ) → (a .number ≡ 0 → ⊥) → Writes cs ws file a file
     write-refused file gone = by (drawingOfTable cs ws) refl
       where
         by : (o : Option Drawing) → drawingOfTable cs ws ≡ o → Writes cs ws file a file
-        by none is = record { says = ap (λ x. record { answer = x; buffer = file }) (checks .says ∙ ap checkFrom is) ∙ sym (ap (λ o. writeFrom o file) is) }
-        by (some d) is = absurd (gone (ap (λ x. x .number) (checks .says ∙ ap checkFrom is)))
+        by none is = writes below (ap (λ x. record { answer = x; buffer = file }) (checked .says ∙ ap checkFrom is) ∙ sym (ap (λ o. writeFrom o file) is))
+        by (some d) is = absurd (gone (ap (λ x. x .number) (checked .says ∙ ap checkFrom is)))
 
     module _ (zero-is : a .number ≡ 0) where
       pub within-limits : (length cs ≤ 4 * lengthLimit) × (length ws ≤ lengthLimit)
-      within-limits = let here = checked zero-is in table-limits cs ws (here .d) (drawing-of-table cs ws below (here .d) .0 (here .is))
+      within-limits = let here = drawn zero-is in table-limits cs ws (here .d) (drawing-of-table cs ws below (here .d) .0 (here .is))
 
-      length-is : a .offset ≡ length (fileOf (checked zero-is .d))
-      length-is = ap (λ x. x .offset) (checked zero-is .answer-is)
+      length-is : a .offset ≡ length (fileOf (drawn zero-is .d))
+      length-is = ap (λ x. x .offset) (drawn zero-is .answer-is)
 
-      by-room : (file : List ℕ) (n : ℕ) → unless (leb (length (fileOf (checked zero-is .d))) (length file)) 17 ≡ n → written n (checked zero-is .d) file ≡ writeOutput cs ws file
-      by-room file n is = ap (λ k. written k (checked zero-is .d) file) (sym is) ∙ sym (ap (λ o. writeFrom o file) (checked zero-is .is))
+      by-room : (file : List ℕ) (n : ℕ) → unless (leb (length (fileOf (drawn zero-is .d))) (length file)) 17 ≡ n → written n (drawn zero-is .d) file ≡ writeOutput cs ws file
+      by-room file n is = ap (λ k. written k (drawn zero-is .d) file) (sym is) ∙ sym (ap (λ o. writeFrom o file) (drawn zero-is .is))
 
       pub write-short : (file : List ℕ) → length file < a .offset → Writes cs ws file (answer 17 (a .offset) 0 0) file
       write-short file short =
-          let lacks = lt-leb (length (fileOf (checked zero-is .d))) (length file) (subst (λ n. length file < n) length-is short) in
-          record { says = ap (λ n. record { answer = answer 17 n 0 0; buffer = file }) length-is ∙ by-room file 17 (ap (λ t. unless t 17) lacks) }
+          let lacks = lt-leb (length (fileOf (drawn zero-is .d))) (length file) (subst (λ n. length file < n) length-is short) in
+          writes below (ap (λ n. record { answer = answer 17 n 0 0; buffer = file }) length-is ∙ by-room file 17 (ap (λ t. unless t 17) lacks))
 
       pub write-whole : {file file′ : List ℕ} {r : Walked} → (length file < a .offset → ⊥) → WalksTable cs ws file file′ r → Writes cs ws file a file′
       write-whole {file} {file′} {r} room walks =
-          let here = checked zero-is in
+          let here = drawn zero-is in
           let fits : length (fileOf (here .d)) ≤ length file = subst (λ n. n ≤ length file) length-is (omega (arith, room)) in
           let whole : Whole (here .d) file file′ r = subst (TableComes file file′ r) (here .is) (walks .comes) in
           let from-zero : 0 + length (fileOf (here .d)) ≡ length (fileOf (here .d)) = omega arith in
           let stored : file′ ≡ overwrite (fileOf (here .d)) file = whole .written .stands (rw from-zero fits) ∙ ap (λ n. fileOf (here .d) ++ drop n file) from-zero in
-          record {
-            says =
-                ap₂ (λ x l. record { answer = x; buffer = l }) (here .answer-is) stored
-                ∙ by-room file 0 (ap (λ t. unless t 17) (le-leb (length (fileOf (here .d))) (length file) fits));
-          }
+          writes below
+          (ap₂ (λ x l. record { answer = x; buffer = l }) (here .answer-is) stored
+          ∙ by-room file 0 (ap (λ t. unless t 17) (le-leb (length (fileOf (here .d))) (length file) fits)))

@@ -11,9 +11,10 @@ use Rattle.format.specs.LeafLaws.{below-drop}
 use Rattle.format.specs.Codec.{Outcome, found, refused}
 use Rattle.format.specs.FixedLayoutLaws.{parsed-good}
 use Rattle.format.specs.Kind.{Kind}
-use Rattle.format.specs.Layout.{Layout, field, parse}
+use Rattle.format.specs.Layout.{Layout, field}
+use Rattle.format.specs.Parse.{parse}
 use Rattle.format.specs.ParsingLaws.{parse-field}
-use Rattle.drawing.specs.Codecs as Codecs
+use Rattle.drawing.specs.Reading as Reading
 use Rattle.drawing.specs.Codecs.{wordFields}
 use Rattle.drawing.specs.String.{equal}
 use Rattle.drawing.specs.Table.{wordsOf, row}
@@ -30,7 +31,7 @@ use Rattle.table.specs.Walks.{placeAt, Writes}
 
 -- A value stands at the place: its pass went on behind it.
 pub record Found {A : Type 0} (L : Layout A) (ws m m′ : List ℕ) (p r : Pass) (a : A) : Type 0 where
-  pub parsed : parse Codecs.words L (drop (p .at) ws) ≡ found a (drop (r .at) ws)
+  pub parsed : parse Reading.words L (drop (p .at) ws) ≡ found a (drop (r .at) ws)
   pub good : L .Good a
   pub at-is : r .at ≡ p .at + length (wordsOf L a)
   pub inside : r .at ≤ length ws
@@ -43,14 +44,14 @@ pub record Unfound {A : Type 0} (L : Layout A) (ws : List ℕ) (p : Pass) (numbe
   pub is-16 : number ≡ 16
   pub n : ℕ
   pub place : List ℕ
-  pub parsed : parse Codecs.words L (drop (p .at) ws) ≡ refused n place
+  pub parsed : parse Reading.words L (drop (p .at) ws) ≡ refused n place
 
 abbrev pub Judged : {A : Type 0} → Layout A → (ws m m′ : List ℕ) → (p r : Pass) → (number : ℕ) → Type 0
 Judged {A} L ws m m′ p r zero = (a : A) × Found L ws m m′ p r a
 Judged L ws m m′ p r (suc n) = Unfound L ws p (suc n)
 
 module _ {A : Type 0} (L : Layout A) {ws m m′ : List ℕ} {p r : Pass} (below : Below (2 ^ 32) ws) (going : p .number ≡ 0) (inside : p .at ≤ length ws) where
-  found-here : (a : A) (rest : List ℕ) → parse Codecs.words L (drop (p .at) ws) ≡ found a rest → Landed L true ws m m′ p r a rest → length m′ ≡ length m → Found L ws m m′ p r a
+  found-here : (a : A) (rest : List ℕ) → parse Reading.words L (drop (p .at) ws) ≡ found a rest → Landed L true ws m m′ p r a rest → length m′ ≡ length m → Found L ws m m′ p r a
   found-here a rest e landed same-length =
       let front = wordsOf L a in
       let g = parsed-good wordFields words-sensible words-literal L (drop (p .at) ws) (below-drop (2 ^ 32) (p .at) ws below) a rest e in
@@ -72,9 +73,9 @@ module _ {A : Type 0} (L : Layout A) {ws m m′ : List ℕ} {p r : Pass} (below 
       }
 
   pub judged-body : Laid (L .format) true ws m m′ p r → Judged L ws m m′ p r (r .number)
-  judged-body laid = by (parse Codecs.words L (drop (p .at) ws)) refl (lands L true below going inside laid)
+  judged-body laid = by (parse Reading.words L (drop (p .at) ws)) refl (lands L true below going inside laid)
     where
-      by : (o : Outcome A) → parse Codecs.words L (drop (p .at) ws) ≡ o → Lands L true ws m m′ p r o → Judged L ws m m′ p r (r .number)
+      by : (o : Outcome A) → parse Reading.words L (drop (p .at) ws) ≡ o → Lands L true ws m m′ p r o → Judged L ws m m′ p r (r .number)
       by (found a rest) e landed = subst (Judged L ws m m′ p r) (sym (landed .on)) (a, found-here a rest e landed (laid .carried .same-length))
       by (refused n place) e failed = subst (Judged L ws m m′ p r) (sym (failed .number-is)) (record { is-16 = refl; n = n; place = place; parsed = e })
 
@@ -95,13 +96,13 @@ pub field-found : (k : Kind) {ws m m′ : List ℕ} {p : Pass} {q : Took} → Be
 field-found k {ws} {m} {m′} {p} {q} below going inside asked on =
     let f = body-found (field k) below going inside (field-laid asked) on in
     let t : Takes k true ws m m′ p q (found (f .0) (drop (q .pass .at) ws)) =
-    subst (Takes k true ws m m′ p q) (sym (parse-field Codecs.words k (drop (p .at) ws)) ∙ f .1 .parsed) (takes k true below going inside asked) in
+    subst (Takes k true ws m m′ p q) (sym (parse-field Reading.words k (drop (p .at) ws)) ∙ f .1 .parsed) (takes k true below going inside asked) in
     subst (Found (field k) ws m m′ p (q .pass)) (sym (t .0)) (f .1)
 
 -- ---- the walk over a body
 
 module _ {A : Type 0} (L : Layout A) (cs ws : List ℕ) (n kind parent : ℕ) (words : List ℕ) (at : ℕ) where
-  pub walk-body : (end : ℕ) {a : A} → at ≤ end → end ≤ length ws → parse Codecs.words L (drop at ws) ≡ found a (drop end ws)
+  pub walk-body : (end : ℕ) {a : A} → at ≤ end → end ≤ length ws → parse Reading.words L (drop at ws) ≡ found a (drop end ws)
       → body L kind parent words (placeAt cs ws n at) ≡ provided (equal words (row kind parent at (end - at))) (met a (placeAt cs ws n end))
   walk-body end {a} forward inside parsed =
       let used : length (drop at ws) - length (drop end ws) ≡ end - at = rw (length-drop at ws, length-drop end ws) (omega arith) in
@@ -110,5 +111,5 @@ module _ {A : Type 0} (L : Layout A) (cs ws : List ℕ) (n kind parent : ℕ) (w
       ∙ ap (λ k. provided (equal words (row kind parent at k)) (met a (record { row = n; contents = placeAt cs ws n at .contents; at = at + k; bodies = drop end ws }))) used
       ∙ ap (λ k. provided (equal words (row kind parent at (end - at))) (met a (record { row = n; contents = placeAt cs ws n at .contents; at = k; bodies = drop end ws }))) next
 
-  pub lose-body : {k : ℕ} {place : List ℕ} → parse Codecs.words L (drop at ws) ≡ refused k place → body L kind parent words (placeAt cs ws n at) ≡ lost
+  pub lose-body : {k : ℕ} {place : List ℕ} → parse Reading.words L (drop at ws) ≡ refused k place → body L kind parent words (placeAt cs ws n at) ≡ lost
   lose-body none = ap (bodyFrom kind parent words (placeAt cs ws n at)) none

@@ -10,9 +10,10 @@ use lib.ListN.{length, drop, length-append, length-drop}
 use borrow.Author.Tests.{le-leb, lt-leb}
 use Rattle.format.specs.Digits.{Below, digits}
 use Rattle.format.specs.Codec.{found, andThen}
-use Rattle.format.specs.Layout.{field, parse}
+use Rattle.format.specs.Layout.{field}
+use Rattle.format.specs.Parse.{parse}
 use Rattle.format.specs.ParsingLaws.{parse-pair}
-use Rattle.drawing.specs.Codecs as Codecs
+use Rattle.drawing.specs.Reading as Reading
 use Rattle.drawing.specs.Limits.{lastMinor, lengthLimit}
 use Rattle.drawing.specs.Fields.{integerIn, jdr, versionZero}
 use Rattle.drawing.specs.String.{equal}
@@ -61,33 +62,33 @@ none-left (suc n) (x ∷ xs) h = none-left n xs (omega arith)
 -- ---- the head
 
 module _ (cs ws : List ℕ) where
-  head-parse : parse Codecs.words tableHead ws
-      ≡ andThen (parse Codecs.words (field (integerIn 0 lastMinor)) ws) (λ v rest. andThen (parse Codecs.words (settings v) rest) (λ s rest₂. found (v, s) rest₂))
-  head-parse = parse-pair Codecs.words (field (integerIn 0 lastMinor)) settings ws
+  head-parse : parse Reading.words tableHead ws
+      ≡ andThen (parse Reading.words (field (integerIn 0 lastMinor)) ws) (λ v rest. andThen (parse Reading.words (settings v) rest) (λ s rest₂. found (v, s) rest₂))
+  head-parse = parse-pair Reading.words (field (integerIn 0 lastMinor)) settings ws
 
   pub version-unfound : (p : Pass) {k : ℕ} → p .at ≡ 0 → Unfound (field (integerIn 0 lastMinor)) ws p k → drawingOfTable cs ws ≡ none
   version-unfound p at-is u =
       ap (behindHead cs (length ws))
       (head-parse
-      ∙ ap (λ o. andThen o (λ v rest. andThen (parse Codecs.words (settings v) rest) (λ s rest₂. found (v, s) rest₂)))
-      (ap (λ n. parse Codecs.words (field (integerIn 0 lastMinor)) (drop n ws)) (sym at-is) ∙ u .parsed))
+      ∙ ap (λ o. andThen o (λ v rest. andThen (parse Reading.words (settings v) rest) (λ s rest₂. found (v, s) rest₂)))
+      (ap (λ n. parse Reading.words (field (integerIn 0 lastMinor)) (drop n ws)) (sym at-is) ∙ u .parsed))
 
   module _ {m₀ m₀′ : List ℕ} (p : Pass) (at-is : p .at ≡ 0) {q : Took} (told : Found (field (integerIn 0 lastMinor)) ws m₀ m₀′ p (q .pass) (q .value)) where
     pub version-small : q .value ≤ lastMinor
     version-small = minor-small (q .value) (told .good)
 
-    behind-version : parse Codecs.words tableHead ws ≡ andThen (parse Codecs.words (settings (q .value)) (drop (q .pass .at) ws)) (λ s rest₂. found (q .value, s) rest₂)
+    behind-version : parse Reading.words tableHead ws ≡ andThen (parse Reading.words (settings (q .value)) (drop (q .pass .at) ws)) (λ s rest₂. found (q .value, s) rest₂)
     behind-version =
         head-parse
-        ∙ ap (λ o. andThen o (λ v rest. andThen (parse Codecs.words (settings v) rest) (λ s rest₂. found (v, s) rest₂)))
-        (ap (λ n. parse Codecs.words (field (integerIn 0 lastMinor)) (drop n ws)) (sym at-is) ∙ told .parsed)
+        ∙ ap (λ o. andThen o (λ v rest. andThen (parse Reading.words (settings v) rest) (λ s rest₂. found (v, s) rest₂)))
+        (ap (λ n. parse Reading.words (field (integerIn 0 lastMinor)) (drop n ws)) (sym at-is) ∙ told .parsed)
 
     module _ (p₁ : Pass) (at₁-is : p₁ .at ≡ q .pass .at) where
       pub settings-unfound : {k : ℕ} → Unfound (settings (q .value)) ws p₁ k → drawingOfTable cs ws ≡ none
       settings-unfound u =
           ap (behindHead cs (length ws))
           (behind-version
-          ∙ ap (λ n. andThen (parse Codecs.words (settings (q .value)) (drop n ws)) (λ s rest₂. found (q .value, s) rest₂)) (sym at₁-is)
+          ∙ ap (λ n. andThen (parse Reading.words (settings (q .value)) (drop n ws)) (λ s rest₂. found (q .value, s) rest₂)) (sym at₁-is)
           ∙ ap (λ o. andThen o (λ s rest₂. found (q .value, s) rest₂)) (u .parsed))
 
       module _ {m₁ m₂ : List ℕ} {e : Pass} {s : Settings} (settled : Found (settings (q .value)) ws m₁ m₂ p₁ e s) where
@@ -97,7 +98,7 @@ module _ (cs ws : List ℕ) where
             let place : length ws - length (drop (e .at) ws) ≡ e .at = rw length-drop (omega (arith, settled .inside)) in
             ap (behindHead cs (length ws))
             (behind-version
-            ∙ ap (λ n. andThen (parse Codecs.words (settings (q .value)) (drop n ws)) (λ s rest₂. found (q .value, s) rest₂)) (sym at₁-is)
+            ∙ ap (λ n. andThen (parse Reading.words (settings (q .value)) (drop n ws)) (λ s rest₂. found (q .value, s) rest₂)) (sym at₁-is)
             ∙ ap (λ o. andThen o (λ s rest₂. found (q .value, s) rest₂)) (settled .parsed))
             ∙ ap (λ n. wholeTable (q .value) s (walkOuter (q .value) (record { row = 0; contents = cs; at = n; bodies = drop (e .at) ws }))) place
 

@@ -8,15 +8,16 @@ use lib.Dec.{eqb}
 use lib.ListN.{drop}
 use borrow.Author.Tests.{eq-eqb, ne-eqb}
 use Rattle.format.specs.Codec.{found, refused, andThen}
-use Rattle.format.specs.Layout.{field, parse}
+use Rattle.format.specs.Layout.{field}
+use Rattle.format.specs.Parse.{parse}
 use Rattle.format.specs.ParsingLaws.{parse-pair}
-use Rattle.drawing.specs.Codecs as Codecs
+use Rattle.drawing.specs.Reading as Reading
 use Rattle.drawing.specs.Fields.{memberCount}
 use Rattle.drawing.specs.String.{String, equal}
 use Rattle.drawing.specs.LeafLayout.{objectEnd}
 use Rattle.drawing.specs.Table as Table
 use Rattle.drawing.specs.Table.{groupKind, groupOwn}
-use Rattle.drawing.specs.TableDrawing.{Walk, met, lost, onward, provided, body}
+use Rattle.drawing.specs.TableDrawing.{Walk, met, lost, onward, provided}
 use Rattle.laws.specs.ObjectBytes.{bytesOf}
 use Rattle.passes.specs.declared.Pass.{Pass}
 use Rattle.passes.specs.declared.Took.{Took}
@@ -31,22 +32,22 @@ module _ (v parent n : ℕ) (cs ws : List ℕ) (row next : ℕ) (p : Pass) where
   abbrev behindBody : Walk (ℕ × String) → Walk String
   behindBody w = onward w (λ own r. provided (eqb (own .0) n) (met (own .1) r))
 
-  own-parse : parse Codecs.words (groupOwn v) (drop (p .at) ws)
-      ≡ andThen (parse Codecs.words (field memberCount) (drop (p .at) ws)) (λ n rest. andThen (parse Codecs.words (objectEnd v) rest) (λ d rest₂. found (n, d) rest₂))
-  own-parse = parse-pair Codecs.words (field memberCount) (λ n. objectEnd v) (drop (p .at) ws)
+  own-parse : parse Reading.words (groupOwn v) (drop (p .at) ws)
+      ≡ andThen (parse Reading.words (field memberCount) (drop (p .at) ws)) (λ n rest. andThen (parse Reading.words (objectEnd v) rest) (λ d rest₂. found (n, d) rest₂))
+  own-parse = parse-pair Reading.words (field memberCount) (λ n. objectEnd v) (drop (p .at) ws)
 
-  own-lost : {k : ℕ} {place : List ℕ} → parse Codecs.words (groupOwn v) (drop (p .at) ws) ≡ refused k place → walkHere ≡ lost
+  own-lost : {k : ℕ} {place : List ℕ} → parse Reading.words (groupOwn v) (drop (p .at) ws) ≡ refused k place → walkHere ≡ lost
   own-lost e = ap behindBody (lose-body (groupOwn v) cs ws next groupKind parent (rowAt cs row) (p .at) e)
 
   pub count-unfound : {k : ℕ} → Unfound (field memberCount) ws p k → walkHere ≡ lost
-  count-unfound none = own-lost (own-parse ∙ ap (λ o. andThen o (λ n rest. andThen (parse Codecs.words (objectEnd v) rest) (λ d rest₂. found (n, d) rest₂))) (none .parsed))
+  count-unfound none = own-lost (own-parse ∙ ap (λ o. andThen o (λ n rest. andThen (parse Reading.words (objectEnd v) rest) (λ d rest₂. found (n, d) rest₂))) (none .parsed))
 
   module _ {m₁ m₁′ : List ℕ} {q : Took} (counted : Found (field memberCount) ws m₁ m₁′ p (q .pass) (q .value)) (p₂ : Pass) (at-is : p₂ .at ≡ q .pass .at) where
-    behind-count : parse Codecs.words (groupOwn v) (drop (p .at) ws) ≡ andThen (parse Codecs.words (objectEnd v) (drop (p₂ .at) ws)) (λ d rest₂. found (q .value, d) rest₂)
+    behind-count : parse Reading.words (groupOwn v) (drop (p .at) ws) ≡ andThen (parse Reading.words (objectEnd v) (drop (p₂ .at) ws)) (λ d rest₂. found (q .value, d) rest₂)
     behind-count =
         own-parse
-        ∙ ap (λ o. andThen o (λ n rest. andThen (parse Codecs.words (objectEnd v) rest) (λ d rest₂. found (n, d) rest₂))) (counted .parsed)
-        ∙ ap (λ k. andThen (parse Codecs.words (objectEnd v) (drop k ws)) (λ d rest₂. found (q .value, d) rest₂)) (sym at-is)
+        ∙ ap (λ o. andThen o (λ n rest. andThen (parse Reading.words (objectEnd v) rest) (λ d rest₂. found (n, d) rest₂))) (counted .parsed)
+        ∙ ap (λ k. andThen (parse Reading.words (objectEnd v) (drop k ws)) (λ d rest₂. found (q .value, d) rest₂)) (sym at-is)
 
     pub end-unfound : {k : ℕ} → Unfound (objectEnd v) ws p₂ k → walkHere ≡ lost
     end-unfound none = own-lost (behind-count ∙ ap (λ o. andThen o (λ d rest₂. found (q .value, d) rest₂)) (none .parsed))

@@ -7,7 +7,7 @@ use mathlib.Core.List.{List, [], _∷_}
 use lib.Dec.{eqb}
 use lib.ListN.{length, take, drop, getD, take-append-drop, length-drop}
 use lib.Seq.{drop-cons, drop-drop, getD-drop, length-take-le}
-use Rattle.format.specs.FixedCodec.{splitAt}
+use Rattle.format.specs.FixedReading.{splitAt}
 use Rattle.format.specs.FixedCodecLaws.{splitAt-append, splitAt-short}
 use Rattle.drawing.specs.String.{equal}
 use Rattle.drawing.specs.Table.{row, kindIn, startIn}

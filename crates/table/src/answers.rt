@@ -2,7 +2,8 @@
 use crate::file::walk_table;
 use drawing::Answer;
 ghost use mathlib.Core.Path.{_≡_};
-ghost use Rattle.drawing.specs.Answers.{noTable, Checks, Writes};
+ghost use Rattle.drawing.specs.Answers.{noTable};
+ghost use Rattle.promises.specs.Promises.{Checks, Writes};
 
 fn no_table() -> Answer
     ensures { λ r. ⌜ r ≡ noTable ⌝ }

@@ -18,7 +18,7 @@ abbrev rgb : Enum.Paint
 rgb = Case.Rgb (float 2) (float 3) (float 4) (float 5)
 
 abbrev given : (number form : ℕ) (first second : Enum.Paint) → ℕ → PaintGiven
-given n form first second place = record { answer = answer n 0 0 0; form = form; first = first; second = second; place = place }
+given n form first second integer = record { answer = answer n 0 0 0; form = form; first = first; second = second; directionOrLocation = integer }
 
 -- A refusal's paint is transparent; a plain paint is the first of two; a gradient has its two plain paints and its integer.
 cases : map paintGiven (Refused 16 ∷ Refused 6 ∷ Plain grey ∷ Linear grey rgb 7 ∷ Radial rgb grey 8 ∷ [])

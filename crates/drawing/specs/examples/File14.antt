@@ -21,7 +21,7 @@ use Rattle.drawing.specs.Settings.{paperOnly}
 use Rattle.drawing.specs.Object.{path, text, bitmap, leaf, group, ofList}
 use Rattle.drawing.specs.Drawing.{Drawing}
 use Rattle.drawing.specs.Order.{entries, groupsAround}
-use Rattle.drawing.specs.Questions.{paintAnswer, textAnswer}
+use Rattle.drawing.specs.Computed.{paintAnswer, textAnswer}
 use Rattle.drawing.specs.examples.Whole.{Whole}
 use Rattle.drawing.specs.examples.Bytes.{Item, byte, flag, int, float, double, char, string, codes, bytes, words, floats, doubles, head, at}
 

@@ -6,7 +6,7 @@ use mathlib.Core.List.{List, [], _∷_, _++_, map}
 use lib.ListN.{length, replicate}
 use lib.Ieee.{le, lt, ofInt, ofBits}
 use Rattle.format.specs.FloatRange.{fromZeroTo, fromZeroBelow}
-use Rattle.drawing.specs.Drawing.{Reading, drawing, refusal, drawingOf}
+use Rattle.drawing.specs.Reading.{Reading, drawing, refusal, drawingOf}
 use Rattle.drawing.specs.examples.Bytes.{byte, flag, int, float, double, char, string, coded, floats}
 use Rattle.drawing.specs.examples.Cases.{Case, times, raw, file, object, bitmap, paints, style, text, flags}
 use Rattle.drawing.specs.examples.PathCases.{styles, segments}

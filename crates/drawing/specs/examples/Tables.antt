@@ -6,8 +6,8 @@ use mathlib.Core.List.{List, [], _∷_, _++_, map}
 use lib.ListN.{replicate, set, take}
 use Rattle.drawing.specs.declared.PaintAnswer.the-variants.{Refused}
 use Rattle.drawing.specs.declared.Which.the-variants.{Line}
-use Rattle.drawing.specs.Answers.{answer, readResult, checkAnswer, writeOutput, listOutput}
-use Rattle.drawing.specs.Questions.{paintAnswer, textAnswer}
+use Rattle.drawing.specs.Answers.{answer}
+use Rattle.drawing.specs.Computed.{readResult, checkAnswer, writeOutput, listOutput, paintAnswer, textAnswer}
 use Rattle.drawing.specs.examples.Bytes.{Item, flag, int, char, string, codes, bytes, words, doubles, head}
 
 -- name, flag, transformation, flow flag

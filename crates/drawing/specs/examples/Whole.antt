@@ -3,7 +3,8 @@ use mathlib.Core.Path.{_≡_}
 use mathlib.Core.Option.{some}
 use Prim.Native.Nat.{ℕ}
 use mathlib.Core.List.{List}
-use Rattle.drawing.specs.Drawing.{Drawing, drawing, drawingOf, fileOf}
+use Rattle.drawing.specs.Drawing.{Drawing, fileOf}
+use Rattle.drawing.specs.Reading.{drawing, drawingOf}
 use Rattle.drawing.specs.Table.{contentsOf, bodiesOf}
 use Rattle.drawing.specs.TableDrawing.{drawingOfTable}
 

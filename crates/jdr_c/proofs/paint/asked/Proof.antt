@@ -6,7 +6,7 @@ use Prim.Native.Nat.{ℕ}
 use borrow.Author.Needs.{needs}
 use borrow.Author.Tests.{ne-eqb}
 use Rattle.drawing.specs.declared.PaintAnswer.{PaintAnswer}
-use Rattle.jdr_c.specs.Values.{partNumbered, paintAsked}
+use Rattle.jdr_c.specs.Values.{partNumbered, paintComputed}
 use Rattle.jdr_c.proofs.paint.asked.Statement.{statement}
 use Rattle.jdr_c.proofs.paint.asked.Tie as tie
 
@@ -14,9 +14,9 @@ no-such-part : (n : ℕ) → (n ≡ 0 → ⊥) → (n ≡ 1 → ⊥) → (n ≡ 
 no-such-part n no-line no-fill no-text = simp (ne-eqb n 0 no-line, ne-eqb n 1 no-fill, ne-eqb n 2 no-text)
 
 module _ (contents bodies : List ℕ) (row : ℕ) where
-  numbered : (m : ℕ) {n : ℕ} {r : PaintAnswer} → r ≡ paintAsked contents bodies row (partNumbered m) → n ≡ m
-      → r ≡ paintAsked contents bodies row (partNumbered n)
-  numbered m answered is = answered ∙ sym (ap (λ n. paintAsked contents bodies row (partNumbered n)) is)
+  numbered : (m : ℕ) {n : ℕ} {r : PaintAnswer} → r ≡ paintComputed contents bodies row (partNumbered m) → n ≡ m
+      → r ≡ paintComputed contents bodies row (partNumbered n)
+  numbered m answered is = answered ∙ sym (ap (λ n. paintComputed contents bodies row (partNumbered n)) is)
 
 returns : tie.Need-returns
 returns c =
@@ -37,7 +37,7 @@ returns-4 : tie.Need-returns-4
 returns-4 c =
     let args = c .before .before .before .before .before .before .args in
     let no-part = no-such-part (args .which) (c .before .before .before .if1 .left) (c .before .before .if2 .left) (c .before .if3 .left) in
-    c .no-part .ensures ∙ sym (ap (paintAsked (args .contents .now) (args .bodies .now) (args .row)) no-part)
+    c .no-part .ensures ∙ sym (ap (paintComputed (args .contents .now) (args .bodies .now) (args .row)) no-part)
 
 pub asked-spec : {M : Type 1} → statement M
 asked-spec =

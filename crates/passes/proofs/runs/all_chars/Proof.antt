@@ -4,9 +4,6 @@ use Rattle.passes.specs.Runs.{Above}
 use borrow.Author.Tests.{eqb-true, eqb-false}
 use Prim.Native.Nat.{_-_, _≤_}
 use native.Mathlib.Omega.{arith}
-use lib.Dec.{eqb}
-use lib.ListN.{getD, length}
-use mathlib.Core.Path.{refl}
 use Rattle.passes.proofs.runs.all_chars.Statement.{statement}
 use Rattle.passes.proofs.runs.all_chars.Tie as tie
 use Rattle.passes.proofs.runs.all_chars.Reads as reads

@@ -8,8 +8,8 @@ use lib.ListN.{length, drop, getD, length-append, length-drop}
 use lib.Seq.{drop-drop, drop-append-seam, getD-drop}
 use Rattle.format.specs.Layout.{Layout, _&_}
 use Rattle.drawing.specs.Table.{wordsOf}
-use Rattle.places.specs.WordLaws.{pair-words}
-use Rattle.places.specs.Places.{WordsStand, Here, Behind}
+use Rattle.laws.specs.WordLaws.{pair-words}
+use Rattle.laws.specs.Standing.{WordsStand, Here, Behind}
 
 module _ {ws : List ℕ} {at : ℕ} where
   pub stands-long : {xs zs : List ℕ} → WordsStand ws at xs zs → at + length xs ≤ length ws
@@ -49,8 +49,11 @@ module _ {A B : Type 0} (L : Layout A) (M : Layout B) {ws : List ℕ} {at : ℕ}
   pub here-first : Here L ws at a
   here-first = record { good = here .good .0; rest = wordsOf M b ++ here .rest; stands = stands-first (wordsOf L a) (wordsOf M b) (same-stands here (pair-words L M a b)) }
 
+  pub here-second : Here M ws (at + length (wordsOf L a)) b
+  here-second = here-behind here (wordsOf L a) M (pair-words L M a b) (here .good .1)
+
   pub here-next : {behind : ℕ} → Behind L ws at behind → Here M ws behind b
-  here-next is = subst (λ n. Here M ws n b) (sym (is a here-first)) (here-behind here (wordsOf L a) M (pair-words L M a b) (here .good .1))
+  here-next is = subst (λ n. Here M ws n b) (sym (is a here-first)) here-second
 
   pub here-later : {behind : ℕ} → Behind L ws at behind → at ≤ behind
   here-later is = omega (arith, is a here-first)

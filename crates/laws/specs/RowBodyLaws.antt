@@ -1,27 +1,33 @@
 -- The laws of row bodies: each row of a drawing's table says where its object's own words stand, and what these are.
-use mathlib.Core.Path.{_≡_, refl, sym, ap, _∙_}
+use mathlib.Core.Path.{_≡_, refl, sym, ap, subst, _∙_}
+use mathlib.Core.Bool.{Bool, true, false}
 use mathlib.Core.Option.{none, some}
 use Prim.Native.Nat.{ℕ, zero, suc, _+_, _*_, _-_, _<_, _≤_}
 use native.Mathlib.Nat.{zero-add, add-zero}
 use native.Mathlib.Omega.{arith}
 use mathlib.Core.List.{List, [], _∷_, _++_, append-nil, append-assoc}
 use lib.ListN.{length, getD, drop, getElem?, length-append, drop-of-length-le}
+use lib.Dec.{ltb}
+use borrow.Author.Tests.{ltb-true, ltb-false}
 use lib.Seq.{drop-append-seam, drop-cons, getD-drop}
+use Rattle.format.specs.Alternative.{told}
 use Rattle.drawing.specs.Limits.{depthLimit}
 use Rattle.drawing.specs.String.{String}
-use Rattle.drawing.specs.Object.{Object, leaf, group, Objects, none, more, listOf}
+use Rattle.drawing.specs.Object.{Leaf, Object, leaf, group, Objects, none, more, listOf}
+use Rattle.drawing.specs.ObjectId.{leafLetter}
+use Rattle.drawing.specs.LeafLayout.{pathCase, otherCases, leafBody, objectEnd}
 use Rattle.drawing.specs.ObjectLayout.{object}
 use Rattle.drawing.specs.Drawing.{Drawing, outer}
-use Rattle.drawing.specs.Table.{groupWords, rows, bodies, bodiesAll, contents, contentsAll, headWords, contentsOf, IsTable}
-use Rattle.drawing.specs.Order.{preorder, preorderAll, objectsOf}
+use Rattle.drawing.specs.Table.{groupWords, rows, bodies, bodiesAll, contents, contentsAll, headWords, contentsOf, startIn, IsTable}
+use Rattle.drawing.specs.Order.{preorder, preorderAll, objectsOf, descriptionOf}
 use Rattle.drawing.specs.Answers.{rowsOf}
 use Rattle.laws.specs.ObjectGood.{good-leaf, good-group, no-group}
 use Rattle.laws.specs.FileGood.{file-parts}
 use Rattle.laws.specs.WalkComplete.{AllGood}
 use Rattle.laws.specs.OrderLaws.{rows-preorder, contents-length, Each, each-append, each-at, beyond}
-use Rattle.places.specs.Places.{WordsStand}
-use Rattle.places.specs.PlaceLaws.{stands-long, stands-first, stands-next}
-use Rattle.places.specs.RowBodies.{ownWords, objectKind, OwnGood, RowBody}
+use Rattle.laws.specs.Standing.{WordsStand, Here}
+use Rattle.laws.specs.StandingLaws.{stands-long, stands-first, stands-next, here-first}
+use Rattle.laws.specs.RowBodies.{ownWords, objectKind, OwnGood, RowBody}
 
 -- ---- objects by their rows
 
@@ -132,3 +138,27 @@ row-body c bs d t r h =
     let all = group-rows v c bs os (d .description) 0 0 at [] [] (g .0 .1 .0, g .1) (t .contents-are ∙ sym (append-nil (contentsOf d))) (bodies-stand c bs d t) members in
     let l = rows-preorder (outer d) in
     rw zero-add at (each-at (RowBody c bs v) (objectsOf d) 0 r (outer d) (omega arith) all)
+
+-- The same, of the object that a row number finds.
+pub object-body : (c bs : List ℕ) (d : Drawing) → IsTable c bs d → (r : ℕ) (o : Object) → getElem? (objectsOf d) r ≡ some o → RowBody c bs (d .version) r o
+object-body c bs d t r o is = by (ltb r (rowsOf d)) refl
+  where
+    by : (b : Bool) → ltb r (rowsOf d) ≡ b → RowBody c bs (d .version) r o
+    by true h =
+        let less = ltb-true r (rowsOf d) h in
+        let same : getD (objectsOf d) r (outer d) ≡ o = let e = sym (row-object d r less) ∙ is in cc in
+        subst (RowBody c bs (d .version) r) same (row-body c bs d t r less)
+    by false h = let e = sym (no-row d r (ltb-false r (rowsOf d) h)) ∙ is in let z : _≡_ {A = ℕ} 0 1 = cc in absurd (omega arith)
+
+-- The end of a row's object is good.
+pub end-good : (c bs : List ℕ) (v r : ℕ) (o : Object) → RowBody c bs v r o → objectEnd v .Good (descriptionOf o)
+end-good c bs v r (leaf l d) row = row .good .1
+end-good c bs v r (group os d) row = row .good .1
+
+-- A leaf's fields stand where its row says, and its end behind them.
+module _ (c bs : List ℕ) (v r : ℕ) where
+  pub body-here : (l : Leaf) (d : String) → RowBody c bs v r (leaf l d) → Here (leafBody v (leafLetter l)) bs (startIn c r) (l, d)
+  body-here l d row = record { good = row .good; rest = row .rest; stands = record { within = omega (arith, row .inside); words-are = row .words-are } }
+
+  pub leaf-here : (l : Leaf) (d : String) → RowBody c bs v r (leaf l d) → Here (told (pathCase v) (otherCases v) (leafLetter l)) bs (startIn c r) l
+  leaf-here l d row = here-first (told (pathCase v) (otherCases v) (leafLetter l)) (objectEnd v) (body-here l d row)

@@ -1,0 +1,69 @@
+-- What each call answers, computed from its input alone: by parsing a file, or by a walk over a table. The calls are proved equal to these, and examples are
+-- computed with them. Nobody need believe them: each call also promises what Promises.antt says of the drawing itself.
+use mathlib.Core.Option.{Option, none, some, Option·map}
+use Prim.Native.Nat.{ℕ}
+use mathlib.Core.List.{List}
+use lib.ListN.{length, getElem?}
+use Rattle.drawing.specs.declared.Answer.{Answer}
+use Rattle.drawing.specs.declared.PaintAnswer.{PaintAnswer}
+use Rattle.drawing.specs.declared.Which.{Which}
+use Rattle.drawing.specs.declared.TextAnswer.{TextAnswer}
+use Rattle.drawing.specs.String.{String}
+use Rattle.drawing.specs.Object.{Object}
+use Rattle.drawing.specs.ObjectId.{textOf}
+use Rattle.drawing.specs.Drawing.{Drawing}
+use Rattle.drawing.specs.Reading.{Reading, drawing, refusal, drawingOf}
+use Rattle.drawing.specs.Table.{startIn}
+use Rattle.drawing.specs.TableDrawing.{drawingOfTable}
+use Rattle.drawing.specs.Order.{objectsOf}
+use Rattle.drawing.specs.Answers.{ReadResult, unread, roomFault, stored, noTable, tableChecked, Output, nothingStored, tableWritten, tableListed}
+use Rattle.drawing.specs.Questions as Q
+
+-- What a call comes to for the table of a drawing, and for runs that are no table.
+abbrev pub fromTable : {R : Type 0} → (Drawing → R) → R → Option Drawing → R
+fromTable of bad none = bad
+fromTable of bad (some d) = of d
+
+-- ---- reading
+
+abbrev pub readFrom : Reading → ℕ → (contents bodies : List ℕ) → ReadResult
+readFrom (refusal n o) total contents bodies = unread n o contents bodies
+readFrom (drawing d) total contents bodies = stored (roomFault d contents bodies) d total contents bodies
+
+abbrev pub readResult : (file contents bodies : List ℕ) → ReadResult
+readResult file contents bodies = readFrom (drawingOf file) (length file) contents bodies
+
+-- ---- checking, writing, listing
+
+abbrev pub checkFrom : Option Drawing → Answer
+checkFrom o = fromTable tableChecked noTable o
+
+abbrev pub checkAnswer : (contents bodies : List ℕ) → Answer
+checkAnswer contents bodies = checkFrom (drawingOfTable contents bodies)
+
+abbrev pub writeFrom : Option Drawing → (file : List ℕ) → Output
+writeFrom o file = fromTable (tableWritten file) (nothingStored file) o
+
+abbrev pub writeOutput : (contents bodies file : List ℕ) → Output
+writeOutput contents bodies file = writeFrom (drawingOfTable contents bodies) file
+
+abbrev pub listFrom : Option Drawing → String → (list : List ℕ) → Output
+listFrom o label list = fromTable (tableListed label list) (nothingStored list) o
+
+abbrev pub listOutput : (contents bodies : List ℕ) → String → (list : List ℕ) → Output
+listOutput contents bodies label list = listFrom (drawingOfTable contents bodies) label list
+
+-- ---- asking about a part of a row's object
+
+abbrev pub partIn : {A : Type 0} → (Drawing → Object → Option A) → Option Drawing → ℕ → Q.Found A
+partIn has none row = Q.refusal 16
+partIn has (some d) row = Q.partAt (has d) (getElem? (objectsOf d) row)
+
+abbrev pub paintAnswer : (contents bodies : List ℕ) → ℕ → Which → PaintAnswer
+paintAnswer contents bodies row which = Q.paintValue (partIn (λ d o. Q.paintPart which o) (drawingOfTable contents bodies) row)
+
+-- A body begins where its row says.
+abbrev pub textAnswer : (contents bodies : List ℕ) → ℕ → TextAnswer
+textAnswer contents bodies row =
+    Q.textValue (startIn contents row)
+    (partIn (λ d o. Option·map (λ t. (d .version, t)) (Q.leafPart textOf o)) (drawingOfTable contents bodies) row)

@@ -1,0 +1,1 @@
+// What the calls promise: definitions and laws, in specs/. No code.
