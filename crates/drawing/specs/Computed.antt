@@ -1,23 +1,22 @@
 -- What each call answers, computed from its input alone: by parsing a file, or by a walk over a table. The calls are proved equal to these, and examples are
 -- computed with them. Nobody need believe them: each call also promises what Promises.antt says of the drawing itself.
-use mathlib.Core.Option.{Option, none, some, Option·map}
+use mathlib.Core.Option.{Option, none, some}
 use Prim.Native.Nat.{ℕ}
 use mathlib.Core.List.{List}
-use lib.ListN.{length, getElem?}
+use lib.ListN.{length}
 use Rattle.drawing.specs.declared.Answer.{Answer}
 use Rattle.drawing.specs.declared.PaintAnswer.{PaintAnswer}
+use Rattle.drawing.specs.declared.PaintAnswer.the-variants.{Refused}
 use Rattle.drawing.specs.declared.Which.{Which}
 use Rattle.drawing.specs.declared.TextAnswer.{TextAnswer}
 use Rattle.drawing.specs.String.{String}
-use Rattle.drawing.specs.Object.{Object}
 use Rattle.drawing.specs.ObjectId.{textOf}
 use Rattle.drawing.specs.Drawing.{Drawing}
 use Rattle.drawing.specs.Reading.{Reading, drawing, refusal, drawingOf}
 use Rattle.drawing.specs.Table.{startIn}
 use Rattle.drawing.specs.TableDrawing.{drawingOfTable}
-use Rattle.drawing.specs.Order.{objectsOf}
 use Rattle.drawing.specs.Answers.{ReadResult, unread, roomFault, stored, noTable, tableChecked, Output, nothingStored, tableWritten, tableListed}
-use Rattle.drawing.specs.Questions as Q
+use Rattle.drawing.specs.Questions.{partOf, leafPart, paintAsked, TextGiven, noText, textPlaces}
 
 -- What a call comes to for the table of a drawing, and for runs that are no table.
 abbrev pub fromTable : {R : Type 0} → (Drawing → R) → R → Option Drawing → R
@@ -53,17 +52,18 @@ listFrom o label list = fromTable (tableListed label list) (nothingStored list) 
 abbrev pub listOutput : (contents bodies : List ℕ) → String → (list : List ℕ) → Output
 listOutput contents bodies label list = listFrom (drawingOfTable contents bodies) label list
 
--- ---- asking about a part of a row's object
-
-abbrev pub partIn : {A : Type 0} → (Drawing → Object → Option A) → Option Drawing → ℕ → Q.Found A
-partIn has none row = Q.refusal 16
-partIn has (some d) row = Q.partAt (has d) (getElem? (objectsOf d) row)
+-- ---- questions
 
 abbrev pub paintAnswer : (contents bodies : List ℕ) → ℕ → Which → PaintAnswer
-paintAnswer contents bodies row which = Q.paintValue (partIn (λ d o. Q.paintPart which o) (drawingOfTable contents bodies) row)
+paintAnswer contents bodies row which = fromTable (paintAsked which row) (Refused 16) (drawingOfTable contents bodies)
 
--- A body begins where its row says.
+-- What is given of a text, as the public answer has it.
+abbrev pub textValue : TextGiven → TextAnswer
+textValue g = record { number = g .answer .number; alternative = g .alternative; text = g .text }
+
+-- The text whose body begins where the table's row says.
+abbrev pub textIn : (contents : List ℕ) → ℕ → Drawing → TextAnswer
+textIn contents row d = textValue (textPlaces (startIn contents row) (d .version) (partOf (leafPart textOf) row d))
+
 abbrev pub textAnswer : (contents bodies : List ℕ) → ℕ → TextAnswer
-textAnswer contents bodies row =
-    Q.textValue (startIn contents row)
-    (partIn (λ d o. Option·map (λ t. (d .version, t)) (Q.leafPart textOf o)) (drawingOfTable contents bodies) row)
+textAnswer contents bodies row = fromTable (textIn contents row) (textValue (noText 16)) (drawingOfTable contents bodies)

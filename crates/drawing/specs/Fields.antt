@@ -1,6 +1,5 @@
 -- The kinds of field of a drawing, each with the number that 01 gives to a value that is not allowed ('Fields', 'Numbers given back').
--- That a field is cut (2), and that a flag is neither 0 nor 1 (5), comes before all of these, in reading the field: see Codecs. A field's value is
--- the unsigned number of its bytes.
+-- That a field is cut (2), and that a flag is neither 0 nor 1 (5), comes before all of these, in reading the field: see Codecs.
 use mathlib.Core.Bool.{Bool, true, false, cond, _&&_, _||_}
 use Prim.Native.Nat.{ℕ, zero, suc, _+_, _%_, _^_}
 use Prim.Native.Char.{code}

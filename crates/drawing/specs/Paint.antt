@@ -34,8 +34,8 @@ plainLetter (hsb h s b a) = code "S"
 
 abbrev pub paintLetter : Paint → ℕ
 paintLetter (plain p) = plainLetter p
-paintLetter (linear f t d) = code "G"
-paintLetter (radial f t l) = code "D"
+paintLetter (linear start end d) = code "G"
+paintLetter (radial start end l) = code "D"
 
 -- The components in file order, with 0 for those that a paint does not have.
 abbrev pub components : Plain → ℕ × (ℕ × (ℕ × (ℕ × ℕ)))
@@ -53,16 +53,17 @@ firstFour p = let c = components p in (c .0, (c .1 .0, (c .1 .1 .0, c .1 .1 .1 .
 
 abbrev pub plainOf : Paint → Option Plain
 plainOf (plain p) = some p
-plainOf (linear f t d) = none
-plainOf (radial f t l) = none
+plainOf (linear start end d) = none
+plainOf (radial start end l) = none
 
 abbrev pub gradientOf : Paint → Option (Plain × (Plain × ℕ))
 gradientOf (plain p) = none
-gradientOf (linear f t d) = some (f, (t, d))
-gradientOf (radial f t l) = some (f, (t, l))
+gradientOf (linear start end d) = some (start, (end, d))
+gradientOf (radial start end l) = some (start, (end, l))
 
--- ---- the components of each colour, in file order
+-- ---- plain paints
 
+-- the components of each colour, in file order
 abbrev pub rgbComponents : Layout (ℕ × (ℕ × (ℕ × ℕ)))
 rgbComponents = field component & field component & field component & field component
 
@@ -75,53 +76,23 @@ greyComponents = field component & field component
 abbrev pub hsbComponents : Layout (ℕ × (ℕ × (ℕ × ℕ)))
 hsbComponents = field hue & field component & field component & field component
 
--- ---- plain paints
--- An alternative is a letter, whether the version has it, the fields behind the letter, how a paint is made of their values, and how a paint is taken apart
--- into them again. A paint is good for an alternative only if making what it was taken apart into gives it back, so taking apart need not tell the cases
--- of the type from each other. The proofs at the end say that what was made is taken apart into the same values, and has the alternative's letter.
-
+-- An alternative is a letter, whether the version has it, and the fields behind the letter; then how a paint is made of their values, and how a paint is
+-- taken apart into them again. A paint is good for an alternative only if making what it was taken apart into gives it back, so taking apart need not tell the
+-- cases of the type from each other. The two proofs say that what was made is taken apart into the same values, and has the alternative's letter.
 abbrev pub transparentCase : Alternative Plain plainLetter
-transparentCase =
-    alternative (code "T") true
-    (nothing {A = Unit {0}} tt)
-    (λ u. transparent)
-    (λ p. some tt)
-    (λ u. refl) (λ u. refl)
-
-abbrev pub rgbCase : Alternative Plain plainLetter
-rgbCase =
-    alternative (code "R") true
-    rgbComponents
-    (λ (r, (g, (b, a))). rgb r g b a)
-    (λ p. some (firstFour p))
-    (λ c. refl) (λ c. refl)
-
-abbrev pub cmykCase : Alternative Plain plainLetter
-cmykCase =
-    alternative (code "C") true
-    cmykComponents
-    (λ (c, (m, (y, (k, a)))). cmyk c m y k a)
-    (λ p. some (components p))
-    (λ c. refl) (λ c. refl)
-
-abbrev pub greyCase : ℕ → Alternative Plain plainLetter
-greyCase v =
-    alternative (code "Y") (leb 4 v)
-    greyComponents
-    (λ (g, a). grey g a)
-    (λ p. some (firstTwo p))
-    (λ c. refl) (λ c. refl)
-
-abbrev pub hsbCase : ℕ → Alternative Plain plainLetter
-hsbCase v =
-    alternative (code "S") (leb 4 v)
-    hsbComponents
-    (λ (h, (s, (b, a))). hsb h s b a)
-    (λ p. some (firstFour p))
-    (λ c. refl) (λ c. refl)
+transparentCase = alternative (code "T") true (nothing {A = Unit {0}} tt) (λ u. transparent) (λ p. some tt) (λ u. refl) (λ u. refl)
 
 abbrev pub plainCases : ℕ → List (Alternative Plain plainLetter)
-plainCases v = rgbCase ∷ cmykCase ∷ greyCase v ∷ hsbCase v ∷ []
+plainCases v =
+    alternative (code "R") true rgbComponents
+    (λ (r, (g, (b, a))). rgb r g b a) (λ p. some (firstFour p)) (λ c. refl) (λ c. refl)
+    ∷ alternative (code "C") true cmykComponents
+    (λ (c, (m, (y, (k, a)))). cmyk c m y k a) (λ p. some (components p)) (λ c. refl) (λ c. refl)
+    ∷ alternative (code "Y") (leb 4 v) greyComponents
+    (λ (g, a). grey g a) (λ p. some (firstTwo p)) (λ c. refl) (λ c. refl)
+    ∷ alternative (code "S") (leb 4 v) hsbComponents
+    (λ (h, (s, (b, a))). hsb h s b a) (λ p. some (firstFour p)) (λ c. refl) (λ c. refl)
+    ∷ []
 
 abbrev pub plainPaint : ℕ → Layout Plain
 plainPaint v = byChar plainLetter transparentCase (plainCases v)
@@ -132,24 +103,16 @@ plainPaint v = byChar plainLetter transparentCase (plainCases v)
 abbrev pub asPaint : Alternative Plain plainLetter → Alternative Paint paintLetter
 asPaint = within plain plainOf (λ p. refl) (λ p. refl)
 
-abbrev pub linearCase : ℕ → Alternative Paint paintLetter
-linearCase v =
-    alternative (code "G") true
-    (plainPaint v & plainPaint v & field (integerIn 0 7))
-    (λ (start, (end, direction)). linear start end direction)
-    gradientOf
-    (λ g. refl) (λ g. refl)
-
-abbrev pub radialCase : ℕ → Alternative Paint paintLetter
-radialCase v =
-    alternative (code "D") (leb 3 v)
-    (plainPaint v & plainPaint v & field (integerIn 0 8))
-    (λ (start, (end, location)). radial start end location)
-    gradientOf
-    (λ g. refl) (λ g. refl)
+abbrev pub gradientCases : ℕ → List (Alternative Paint paintLetter)
+gradientCases v =
+    alternative (code "G") true (plainPaint v & plainPaint v & field (integerIn 0 7))
+    (λ (start, (end, direction)). linear start end direction) gradientOf (λ g. refl) (λ g. refl)
+    ∷ alternative (code "D") (leb 3 v) (plainPaint v & plainPaint v & field (integerIn 0 8))
+    (λ (start, (end, location)). radial start end location) gradientOf (λ g. refl) (λ g. refl)
+    ∷ []
 
 abbrev pub paintCases : ℕ → List (Alternative Paint paintLetter)
-paintCases v = map asPaint (plainCases v) ++ (linearCase v ∷ radialCase v ∷ [])
+paintCases v = map asPaint (plainCases v) ++ gradientCases v
 
 abbrev pub paint : ℕ → Layout Paint
 paint v = byChar paintLetter (asPaint transparentCase) (paintCases v)

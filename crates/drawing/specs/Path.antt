@@ -20,7 +20,7 @@ pub record Point : Type 0 where
   pub x : ℕ
   pub y : ℕ
 
--- A segment with its own start point, which is a field below 1.3 and the origin from 1.3 on.
+-- A segment with its own start point, a field below 1.3; from 1.3 on the origin stands for it.
 pub data Segment : Type 0 where
   curve : (start first second end : Point) → Segment
   line : (start end : Point) → Segment
@@ -32,7 +32,7 @@ pub record Path : Type 0 where
   pub style : LineStyle
   -- the char O or C
   pub openOrClosed : ℕ
-  -- a field from 1.3 on; the origin below
+  -- a field from 1.3 on; below, the origin stands for it
   pub start : Point
   pub segments : List Segment
 

@@ -20,8 +20,8 @@ use Rattle.drawing.specs.String.{String, string}
 use Rattle.drawing.specs.Choices.{ifFlag}
 use Rattle.drawing.specs.Paint as P
 use Rattle.drawing.specs.Text as T
-use Rattle.drawing.specs.Object.{Object, Leaf}
-use Rattle.drawing.specs.ObjectId.{leafOf, pathOf, textOf}
+use Rattle.drawing.specs.Object.{Object, leaf, group, Leaf}
+use Rattle.drawing.specs.ObjectId.{pathOf, textOf}
 use Rattle.drawing.specs.Drawing.{Drawing}
 use Rattle.drawing.specs.Table.{wordsOf, startIn, contentsOf}
 use Rattle.drawing.specs.Order.{objectsOf}
@@ -29,7 +29,7 @@ use Rattle.drawing.specs.Answers.{answer}
 
 -- ---- asking about a part of a row's object
 
--- A part, or the refusal's number: 6 for a row out of range, 7 for an object with no such part, and 16 where there is no table.
+-- A part, or the refusal's number: 6 for a row out of range, 7 for an object with no such part.
 pub data Found (A : Type 0) : Type 0 where
   part : A → Found A
   refusal : ℕ → Found A
@@ -49,25 +49,25 @@ partOf has row d = partAt has (getElem? (objectsOf d) row)
 -- ---- the paint question
 
 -- A float component, as the value that its bits stand for.
-abbrev pub float : ℕ → Float
-float bits = ofBits binary32 bits
+abbrev pub floatOf : ℕ → Float
+floatOf bits = ofBits binary32 bits
 
 -- A plain paint as the public enum has it.
 abbrev pub plainValue : P.Plain → PaintEnum.Paint
 plainValue P.transparent = PaintCase.Transparent
-plainValue (P.rgb r g b a) = PaintCase.Rgb (float r) (float g) (float b) (float a)
-plainValue (P.cmyk c m y k a) = PaintCase.Cmyk (float c) (float m) (float y) (float k) (float a)
-plainValue (P.grey g a) = PaintCase.Grey (float g) (float a)
-plainValue (P.hsb h s b a) = PaintCase.Hsb (float h) (float s) (float b) (float a)
+plainValue (P.rgb r g b a) = PaintCase.Rgb (floatOf r) (floatOf g) (floatOf b) (floatOf a)
+plainValue (P.cmyk c m y k a) = PaintCase.Cmyk (floatOf c) (floatOf m) (floatOf y) (floatOf k) (floatOf a)
+plainValue (P.grey g a) = PaintCase.Grey (floatOf g) (floatOf a)
+plainValue (P.hsb h s b a) = PaintCase.Hsb (floatOf h) (floatOf s) (floatOf b) (floatOf a)
 
 abbrev pub paintValue : Found P.Paint → PaintAnswer
 paintValue (refusal n) = Refused n
 paintValue (part (P.plain p)) = Plain (plainValue p)
-paintValue (part (P.linear f t d)) = Linear (plainValue f) (plainValue t) d
-paintValue (part (P.radial f t l)) = Radial (plainValue f) (plainValue t) l
+paintValue (part (P.linear start end d)) = Linear (plainValue start) (plainValue end) d
+paintValue (part (P.radial start end l)) = Radial (plainValue start) (plainValue end) l
 
--- What each case of the public answer says: 01's answer, whose offset and counts are 0, the form (0 plain, 1 linear, 2 radial), the one or two
--- plain paints, and a gradient's integer: the direction of a linear one, the location of a radial one. With a refusal the paint is transparent.
+-- What 01 asks of the answer: the number, with offset and counts 0; the form (0 plain, 1 linear, 2 radial); the one or two plain paints; and a gradient's
+-- integer, the direction of a linear one or the location of a radial one. With a refusal the paint is transparent.
 pub record PaintGiven : Type 0 where
   pub answer : Answer
   pub form : ℕ
@@ -75,20 +75,27 @@ pub record PaintGiven : Type 0 where
   pub second : PaintEnum.Paint
   pub directionOrLocation : ℕ
 
+abbrev pub given : (number form : ℕ) (first second : PaintEnum.Paint) → ℕ → PaintGiven
+given n form first second integer = record { answer = answer n 0 0 0; form = form; first = first; second = second; directionOrLocation = integer }
+
+-- It, for each case of the public answer.
 abbrev pub paintGiven : PaintAnswer → PaintGiven
-paintGiven (Refused n) =
-    record { answer = answer n 0 0 0; form = 0; first = PaintCase.Transparent; second = PaintCase.Transparent; directionOrLocation = 0 }
-paintGiven (Plain p) = record { answer = answer 0 0 0 0; form = 0; first = p; second = PaintCase.Transparent; directionOrLocation = 0 }
-paintGiven (Linear f t d) = record { answer = answer 0 0 0 0; form = 1; first = f; second = t; directionOrLocation = d }
-paintGiven (Radial f t l) = record { answer = answer 0 0 0 0; form = 2; first = f; second = t; directionOrLocation = l }
+paintGiven (Refused n) = given n 0 PaintCase.Transparent PaintCase.Transparent 0
+paintGiven (Plain p) = given 0 0 p PaintCase.Transparent 0
+paintGiven (Linear start end d) = given 0 1 start end d
+paintGiven (Radial start end l) = given 0 2 start end l
+
+-- And for the paint of a drawing itself.
+abbrev pub paintOf : Found P.Paint → PaintGiven
+paintOf (refusal n) = given n 0 PaintCase.Transparent PaintCase.Transparent 0
+paintOf (part (P.plain p)) = given 0 0 (plainValue p) PaintCase.Transparent 0
+paintOf (part (P.linear start end d)) = given 0 1 (plainValue start) (plainValue end) d
+paintOf (part (P.radial start end l)) = given 0 2 (plainValue start) (plainValue end) l
 
 -- A part that leaves of one kind have.
-abbrev pub ofLeaf : {A : Type 0} → (Leaf → Option A) → Option (Leaf × String) → Option A
-ofLeaf has none = none
-ofLeaf has (some t) = has (t .0)
-
 abbrev pub leafPart : {A : Type 0} → (Leaf → Option A) → Object → Option A
-leafPart has o = ofLeaf has (leafOf o)
+leafPart has (leaf l d) = has l
+leafPart has (group os d) = none
 
 -- The paint of this part, where an object has the part.
 abbrev pub paintPart : Which → Object → Option P.Paint
@@ -125,29 +132,29 @@ abbrev pub alternativeSpan : ℕ → T.Text → Option T.Latex → Span
 alternativeSpan start t none = noSpan
 alternativeSpan start t (some l) = span (start + beforeAlternative t l) (l .alternative)
 
--- With a refusal the places are 0.
-abbrev pub noText : ℕ → TextAnswer
-noText n = record { number = n; alternative = noSpan; text = noSpan }
-
--- The answer for a text in a drawing of this version, with a body that begins here.
-abbrev pub textValue : (start : ℕ) → Found (ℕ × T.Text) → TextAnswer
-textValue start (refusal n) = noText n
-textValue start (part (v, t)) =
-    record { number = 0; alternative = alternativeSpan start t (t .latex); text = span (start + beforeText v t) (t .text) }
-
--- A body begins where its row says.
-abbrev pub textAsked : ℕ → Drawing → TextAnswer
-textAsked row d =
-    textValue (startIn (contentsOf d) row) (partOf (λ o. Option·map (λ t. (d .version, t)) (leafPart textOf o)) row d)
-
--- What the public answer says: 01's answer, whose offset and counts are 0, and the two places.
+-- What 01 asks of the answer: the number, with offset and counts 0, and the two places.
 pub record TextGiven : Type 0 where
   pub answer : Answer
   pub alternative : Span
   pub text : Span
 
+-- It, for the public answer.
 abbrev pub textGiven : TextAnswer → TextGiven
 textGiven r = record { answer = answer (r .number) 0 0 0; alternative = r .alternative; text = r .text }
+
+-- With a refusal the places are 0.
+abbrev pub noText : ℕ → TextGiven
+noText n = record { answer = answer n 0 0 0; alternative = noSpan; text = noSpan }
+
+-- And for a text in a drawing of this version, with a body that begins here.
+abbrev pub textPlaces : (start version : ℕ) → Found T.Text → TextGiven
+textPlaces start v (refusal n) = noText n
+textPlaces start v (part t) =
+    record { answer = answer 0 0 0 0; alternative = alternativeSpan start t (t .latex); text = span (start + beforeText v t) (t .text) }
+
+-- A body begins where its row says.
+abbrev pub textAsked : ℕ → Drawing → TextGiven
+textAsked row d = textPlaces (startIn (contentsOf d) row) (d .version) (partOf (leafPart textOf) row d)
 
 -- The alternative's chars; none without LaTeX fields.
 abbrev pub alternativeOf : Option T.Latex → String

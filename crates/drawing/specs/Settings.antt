@@ -16,7 +16,7 @@ pub record Paper : Type 0 where
   -- the bits of doubles, 0 unless the size is 18 (user defined)
   pub width : ℕ
   pub height : ℕ
-  -- a field below 1.3, and there only at size 18
+  -- a flag below 1.3 at size 18; 0 elsewhere
   pub portrait : ℕ
 
 pub record AllSettings : Type 0 where

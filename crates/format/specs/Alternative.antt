@@ -14,16 +14,17 @@ pub record Alternative (B : Type 0) (tagOf : B → ℕ) : Type 1 where
   pub layout : Layout B
   pub tells : (b : B) → layout .Good b → tagOf b ≡ tag
 
+-- Of a fallback and the others, which are tried before it. Other tags never come to the fallback: `among` refuses them.
 module _ {B : Type 0} {tagOf : B → ℕ} where
   -- The tag is that of an alternative that is on.
   abbrev pub among : Alternative B tagOf → List (Alternative B tagOf) → ℕ → Bool
-  among first [] c = first .on && eqb c (first .tag)
-  among first (x ∷ xs) c = x .on && eqb c (x .tag) || among first xs c
+  among fallback [] c = fallback .on && eqb c (fallback .tag)
+  among fallback (x ∷ xs) c = x .on && eqb c (x .tag) || among fallback xs c
 
   -- The layout that the tag tells.
   abbrev pub told : Alternative B tagOf → List (Alternative B tagOf) → ℕ → Layout B
-  told first [] c = first .layout
-  told first (x ∷ xs) c = either (x .on && eqb c (x .tag)) (x .layout) (told first xs c)
+  told fallback [] c = fallback .layout
+  told fallback (x ∷ xs) c = either (x .on && eqb c (x .tag)) (x .layout) (told fallback xs c)
 
 -- The value of the flag that tells whether a part is there.
 abbrev pub flagFor : {A : Type 0} → ℕ → ℕ → Option A → ℕ

@@ -33,10 +33,10 @@ within {outer = outer} make apart same tags x =
     }
 
 -- A field of this kind, whose value tells which alternative follows.
-abbrev pub oneOf : {B : Type 0} {tagOf : B → ℕ} (k : Kind) (first : Alternative B tagOf) (rest : List (Alternative B tagOf))
-    → ((c : ℕ) → Allowed k c → among first rest c ≡ true) → Layout B
-oneOf {tagOf = tagOf} k first rest listed =
-    implied (field k) (told first rest) tagOf (λ c b allowed good. told-tells first rest c b (listed c allowed) good)
+abbrev pub oneOf : {B : Type 0} {tagOf : B → ℕ} (k : Kind) (fallback : Alternative B tagOf) (rest : List (Alternative B tagOf))
+    → ((c : ℕ) → Allowed k c → among fallback rest c ≡ true) → Layout B
+oneOf {tagOf = tagOf} k fallback rest listed =
+    implied (field k) (told fallback rest) tagOf (λ c b allowed good. told-tells fallback rest c b (listed c allowed) good)
 
 -- A flag of this kind, which allows two values, and a part where it has the first of them.
 abbrev pub optional : {A : Type 0} (k : Kind) (present absent : ℕ) → ((v : ℕ) → Allowed k v → eqb v present ≡ false → v ≡ absent) → Layout A → Layout (Option A)

@@ -35,13 +35,13 @@ numberFault F k (some v) = k .fault v
 -- A field that is cut: fewer units are left than it has digits.
 pub record Cut (F : Fixed) (k : Kind) (us : List ℕ) (n : ℕ) : Type 0 where
   pub short : length us < F .width (k .shape)
-  pub number : n ≡ F .missing
+  pub number-is : n ≡ F .missing
 
 -- A field at fault: its digits are there, and something is wrong with the number that they write.
 pub record Faulty (F : Fixed) (k : Kind) (us : List ℕ) (n : ℕ) : Type 0 where
   pub front : List ℕ
   pub rest : List ℕ
   pub split : us ≡ front ++ rest
-  pub long : length front ≡ F .width (k .shape)
+  pub whole : length front ≡ F .width (k .shape)
   pub fault-is : numberFault F k (F .meaning (k .shape) (number (F .base) front)) ≡ n
   pub some-fault : 0 < n

@@ -83,16 +83,16 @@ module _ (F : Fixed) (S : Sensible F) where
   faulty-verdict k (suc n) (some v) e h = rw e
 
   fixed-stops : (k : Kind) (us : List ℕ) (n : ℕ) → Cut F k us n ⊎ Faulty F k us n → readCut F k us (splitAt (F .width (k .shape)) us) ≡ refused n us
-  fixed-stops k us n (inl h) = rw (splitAt-short us (F .width (k .shape)) (h .short), h .number)
+  fixed-stops k us n (inl h) = rw (splitAt-short us (F .width (k .shape)) (h .short), h .number-is)
   fixed-stops k us n (inr h) =
-      let c : splitAt (F .width (k .shape)) us ≡ some (h .front, h .rest) = rw (h .split) (splitAt-append (h .front) (h .rest) (F .width (k .shape)) (h .long)) in
+      let c : splitAt (F .width (k .shape)) us ≡ some (h .front, h .rest) = rw (h .split) (splitAt-append (h .front) (h .rest) (F .width (k .shape)) (h .whole)) in
       rw (c, faulty-verdict k n (F .meaning (k .shape) (number (F .base) (h .front))) (h .fault-is) (h .some-fault))
 
   -- What a verdict says of the digits.
   explain-verdict : (k : Kind) (us front rest : List ℕ) → Below (F .base) us → us ≡ front ++ rest → length front ≡ F .width (k .shape)
       → (m : Option ℕ) → F .meaning (k .shape) (number (F .base) front) ≡ m → Explained (fixed F) k us (conclude (verdict F k m) us rest)
   explain-verdict k us front rest b e l none h =
-      (refl, inr (record { front = front; rest = rest; split = e; long = l; fault-is = rw h; some-fault = S .counted }))
+      (refl, inr (record { front = front; rest = rest; split = e; whole = l; fault-is = rw h; some-fault = S .counted }))
   explain-verdict k us front rest b e l (some v) h = judged-so (k .fault v) refl
     where
       below : Below (F .base) front
@@ -103,10 +103,10 @@ module _ (F : Fixed) (S : Sensible F) where
 
       judged-so : (f : ℕ) → k .fault v ≡ f → Explained (fixed F) k us (conclude (judged v f) us rest)
       judged-so zero q = (front, e, record { long = l; below = below; means = h }, record { fits = fits; faultless = q })
-      judged-so (suc n) q = (refl, inr (record { front = front; rest = rest; split = e; long = l; fault-is = rw (h, q); some-fault = omega arith }))
+      judged-so (suc n) q = (refl, inr (record { front = front; rest = rest; split = e; whole = l; fault-is = rw (h, q); some-fault = omega arith }))
 
   explain-cut : (k : Kind) (us : List ℕ) → Below (F .base) us → (o : Option (List ℕ × List ℕ)) → SplitSays (F .width (k .shape)) us o → Explained (fixed F) k us (readCut F k us o)
-  explain-cut k us b none h = (refl, inl (record { short = h; number = refl }))
+  explain-cut k us b none h = (refl, inl (record { short = h; number-is = refl }))
   explain-cut k us b (some parts) h =
       explain-verdict k us (parts .0) (parts .1) b (h .0) (h .1) (F .meaning (k .shape) (number (F .base) (parts .0))) refl
 
@@ -165,5 +165,5 @@ module _ (base : ℕ) (width : Shape → ℕ) (missing meaningless : ℕ) where
 
 -- A refusal's number is never 0.
 pub fault-positive : (F : Fixed) → 0 < F .missing → (k : Kind) (us : List ℕ) (n : ℕ) → Cut F k us n ⊎ Faulty F k us n → 0 < n
-fault-positive F c k us n (inl h) = rw (h .number) c
+fault-positive F c k us n (inl h) = rw (h .number-is) c
 fault-positive F c k us n (inr h) = h .some-fault

@@ -10,8 +10,9 @@ pub use drawing::Span;
 pub use drawing::TextAnswer;
 pub use drawing::Which;
 
-// Reads a file into a table: contents, a row of four words an object, and bodies. Number 0 with the file's length and the counts of rows and words;
-// 1 to 13 with the offset of the field at fault; 14 or 15 with the counts needed, where there is no room. Memory changes only with number 0.
+// Reads a file into a table: contents, a row of four words an object, and bodies. Number 0 with the file's length and the counts of rows and words; 1 with
+// 65,535; 2 to 12 with the offset of the field at fault; 13 with that of the first byte behind the drawing; 14 or 15, where there is no room, with the file's
+// length and the counts needed. Memory changes only with number 0.
 pub fn read(file: &[u8], contents: &mut [u32], bodies: &mut [u32]) -> Answer
     ensures { λ r. ⌜ Reads (now (file .entry)) (now (contents .entry)) (now (bodies .entry)) r (now (contents .exit)) (now (bodies .exit)) ⌝ }
 {
@@ -42,14 +43,14 @@ pub fn list(contents: &[u32], bodies: &[u32], label: &[u16], entries: &mut [u32]
 }
 
 // The line, fill or text paint of a row's object: a plain paint, or a gradient of two with its integer. Refused with 16 where there is no such table, 6
-// where there is no such row, 7 where its object has no such paint.
+// where there is no such row, 7 where its object has no such paint. The enum of plain paints is `drawing::Paint`.
 pub fn paint(contents: &[u32], bodies: &[u32], row: u32, which: Which) -> PaintAnswer
     ensures { λ r. ⌜ Paints (now (contents .entry)) (now (bodies .entry)) row which r ⌝ }
 {
     questions::paint::paint(contents, bodies, row, which)
 }
 
-// Where the chars of a text row's LaTeX alternative and of its text stand in the bodies; numbers as for a paint, and with them all places are 0.
+// Where the chars of a text row's LaTeX alternative and of its text stand in the bodies. A refusal has the numbers of `paint`, and all places 0.
 pub fn text(contents: &[u32], bodies: &[u32], row: u32) -> TextAnswer
     ensures { λ r. ⌜ Texts (now (contents .entry)) (now (bodies .entry)) row r ⌝ }
 {

@@ -1,4 +1,5 @@
 -- What the structs of include/jdr.h hold.
+pub mod PaintComputed
 pub mod Values
-pub mod ValueCases
 pub mod ValueLaws
+pub mod ValueCases

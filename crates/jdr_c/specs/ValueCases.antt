@@ -7,25 +7,26 @@ use Rattle.drawing.specs.declared.Paint.{Paint}
 use Rattle.drawing.specs.declared.Paint.the-variants.{Transparent, Rgb, Cmyk, Grey, Hsb}
 use Rattle.drawing.specs.declared.PaintAnswer.the-variants.{Refused, Plain, Linear, Radial}
 use Rattle.drawing.specs.declared.Which.the-variants.{Line, Fill, Text}
-use Rattle.drawing.specs.Questions.{float, paintGiven}
+use Rattle.drawing.specs.Questions.{floatOf, paintGiven}
 use Rattle.jdr_c.specs.declared.Color.{Color}
 use Rattle.jdr_c.specs.declared.GivenPaint.{GivenPaint}
-use Rattle.jdr_c.specs.Values.{colorOf, paintStruct, partNumbered, paintComputed}
+use Rattle.jdr_c.specs.Values.{colorOf, paintStruct, partNumbered}
+use Rattle.jdr_c.specs.PaintComputed.{paintComputed}
 
 -- Components by their bits, which do not matter here but for 0, which is +0.
 abbrev colored : ℕ → (a b c d e : ℕ) → Color
-colored kind a b c d e = record { kind = kind; components = float a ∷ float b ∷ float c ∷ float d ∷ float e ∷ [] }
+colored kind a b c d e = record { kind = kind; components = floatOf a ∷ floatOf b ∷ floatOf c ∷ floatOf d ∷ floatOf e ∷ [] }
 
 abbrev clear : Color
 clear = colored 0 0 0 0 0 0
 
 abbrev grey : Paint
-grey = Grey (float 1) (float 2)
+grey = Grey (floatOf 1) (floatOf 2)
 
 abbrev hsb : Paint
-hsb = Hsb (float 3) (float 4) (float 5) (float 6)
+hsb = Hsb (floatOf 3) (floatOf 4) (floatOf 5) (floatOf 6)
 
-colors : map colorOf (Transparent ∷ Rgb (float 1) (float 2) (float 3) (float 4) ∷ Cmyk (float 1) (float 2) (float 3) (float 4) (float 5) ∷ grey ∷ hsb ∷ [])
+colors : map colorOf (Transparent ∷ Rgb (floatOf 1) (floatOf 2) (floatOf 3) (floatOf 4) ∷ Cmyk (floatOf 1) (floatOf 2) (floatOf 3) (floatOf 4) (floatOf 5) ∷ grey ∷ hsb ∷ [])
     ≡ clear ∷ colored 1 1 2 3 4 0 ∷ colored 2 1 2 3 4 5 ∷ colored 3 1 2 0 0 0 ∷ colored 4 3 4 5 6 0 ∷ []
 colors = refl
 

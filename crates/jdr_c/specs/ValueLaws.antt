@@ -4,35 +4,35 @@ use mathlib.Core.Option.{Option, none, some}
 use mathlib.Core.List.{List}
 use Prim.Native.Nat.{ℕ, _^_}
 use Rattle.format.specs.Digits.{Below}
-use Rattle.drawing.specs.declared.PaintAnswer.the-variants.{Refused}
 use Rattle.drawing.specs.declared.Which.{Which}
 use Rattle.drawing.specs.Drawing.{Drawing}
 use Rattle.drawing.specs.TableDrawing.{drawingOfTable}
-use Rattle.drawing.specs.Questions.{paintValue, paintPart, paintGiven}
-use Rattle.drawing.specs.Computed.{fromTable, partIn}
-use Rattle.promises.specs.PromiseLaws.{of-table}
+use Rattle.drawing.specs.Questions.{refusal, partOf, paintValue, paintGiven, paintOf}
+use Rattle.drawing.specs.Computed.{fromTable}
+use Rattle.promises.specs.PromiseLaws.{of-table, given-paint}
 use Rattle.jdr_c.specs.declared.GivenPaint.{GivenPaint}
-use Rattle.jdr_c.specs.Values.{paintStruct, partNumbered, paintNumbered, paintComputed, GivesPaint}
+use Rattle.jdr_c.specs.PaintComputed.{paintComputed}
+use Rattle.jdr_c.specs.Values.{paintStruct, partNumbered, paintNumbered, PaintsForC}
 
 -- What is computed of a table is what is asked of its drawing.
-numbered : (contents bodies : List ℕ) (row : ℕ) (part : Option Which)
-    → paintStruct (paintGiven (paintComputed contents bodies row part)) ≡ fromTable (λ d. paintStruct (paintGiven (paintNumbered part row d))) (paintStruct (paintGiven (Refused 16))) (drawingOfTable contents bodies)
-numbered contents bodies row (some which) = by (drawingOfTable contents bodies)
+computed : (contents bodies : List ℕ) (row : ℕ) (part : Option Which)
+    → paintStruct (paintGiven (paintComputed contents bodies row part)) ≡ fromTable (λ d. paintStruct (paintOf (partOf (paintNumbered part) row d))) (paintStruct (paintOf (refusal 16))) (drawingOfTable contents bodies)
+computed contents bodies row part = ap (λ a. paintStruct (paintGiven a)) (told part) ∙ by (drawingOfTable contents bodies)
   where
-    by : (o : Option Drawing) → paintStruct (paintGiven (paintValue (partIn (λ d x. paintPart which x) o row))) ≡ fromTable (λ d. paintStruct (paintGiven (paintNumbered (some which) row d))) (paintStruct (paintGiven (Refused 16))) o
-    by none = refl
-    by (some d) = refl
-numbered contents bodies row none = by (drawingOfTable contents bodies)
-  where
-    by : (o : Option Drawing) → paintStruct (paintGiven (paintValue (partIn (λ d x. none) o row))) ≡ fromTable (λ d. paintStruct (paintGiven (paintNumbered none row d))) (paintStruct (paintGiven (Refused 16))) o
-    by none = refl
-    by (some d) = refl
+    told : (part : Option Which) → paintComputed contents bodies row part ≡ fromTable (λ d. paintValue (partOf (paintNumbered part) row d)) (paintValue (refusal 16)) (drawingOfTable contents bodies)
+    told (some which) = refl
+    told none = refl
 
-pub gives-paint : {contents bodies : List ℕ} {row which : ℕ} {r : GivenPaint} → Below (2 ^ 32) bodies → r ≡ paintStruct (paintGiven (paintComputed contents bodies row (partNumbered which))) → GivesPaint contents bodies row which r
-gives-paint {contents} {bodies} {row} {which} below is =
+    by : (o : Option Drawing) → paintStruct (paintGiven (fromTable (λ d. paintValue (partOf (paintNumbered part) row d)) (paintValue (refusal 16)) o))
+        ≡ fromTable (λ d. paintStruct (paintOf (partOf (paintNumbered part) row d))) (paintStruct (paintOf (refusal 16))) o
+    by none = refl
+    by (some d) = ap paintStruct (given-paint (partOf (paintNumbered part) row d))
+
+pub paints-for-c : {contents bodies : List ℕ} {row which : ℕ} {r : GivenPaint} → Below (2 ^ 32) bodies → r ≡ paintStruct (paintGiven (paintComputed contents bodies row (partNumbered which))) → PaintsForC contents bodies row which r
+paints-for-c {contents} {bodies} {row} {which} below is =
     record {
-      says = is;
       decides =
-          of-table (λ d. paintStruct (paintGiven (paintNumbered (partNumbered which) row d))) (paintStruct (paintGiven (Refused 16))) below
-          (is ∙ numbered contents bodies row (partNumbered which));
+          of-table (λ d. paintStruct (paintOf (partOf (paintNumbered (partNumbered which)) row d))) (paintStruct (paintOf (refusal 16))) below
+          (is ∙ computed contents bodies row (partNumbered which));
+      says = is;
     }

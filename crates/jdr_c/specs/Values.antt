@@ -8,23 +8,21 @@ use lib.Dec.{eqb}
 use lib.Ieee.{Float}
 use Rattle.drawing.specs.declared.Paint.{Paint}
 use Rattle.drawing.specs.declared.Paint.the-variants.{Transparent, Rgb, Cmyk, Grey, Hsb}
-use Rattle.drawing.specs.declared.PaintAnswer.{PaintAnswer}
-use Rattle.drawing.specs.declared.PaintAnswer.the-variants.{Refused}
 use Rattle.drawing.specs.declared.Which.{Which}
 use Rattle.drawing.specs.declared.Which.the-variants.{Line, Fill, Text}
-use Rattle.drawing.specs.Drawing.{Drawing}
-use Rattle.drawing.specs.TableDrawing.{drawingOfTable}
-use Rattle.drawing.specs.Questions.{float, partOf, paintValue, paintAsked, PaintGiven, paintGiven}
-use Rattle.drawing.specs.Computed.{partIn, paintAnswer}
+use Rattle.drawing.specs.Paint as P
+use Rattle.drawing.specs.Object.{Object}
+use Rattle.drawing.specs.Questions.{floatOf, refusal, partOf, paintPart, PaintGiven, paintGiven, paintOf}
 use Rattle.promises.specs.Promises.{OfTable}
 use Rattle.jdr_c.specs.declared.Color.{Color}
 use Rattle.jdr_c.specs.declared.GivenPaint.{GivenPaint}
+use Rattle.jdr_c.specs.PaintComputed.{paintComputed}
 
 -- ---- a plain paint
 
 -- What stands in an unused component.
 abbrev pub plusZero : Float
-plusZero = float 0
+plusZero = floatOf 0
 
 abbrev pub color : (kind : ℕ) → (a b c d e : Float) → Color
 color kind a b c d e = record { kind = kind; components = a ∷ b ∷ c ∷ d ∷ e ∷ [] }
@@ -48,17 +46,13 @@ paintStruct g =
 abbrev pub partNumbered : ℕ → Option Which
 partNumbered n = cond (eqb n 0) (some Line) (cond (eqb n 1) (some Fill) (cond (eqb n 2) (some Text) none))
 
--- The paint that the part of a number asks for, in a drawing's row.
-abbrev pub paintNumbered : Option Which → ℕ → Drawing → PaintAnswer
-paintNumbered (some which) row d = paintAsked which row d
-paintNumbered none row d = paintValue (partOf (λ o. none) row d)
+-- The paint of the part of this number, where an object has the part.
+abbrev pub paintNumbered : Option Which → Object → Option P.Paint
+paintNumbered (some which) o = paintPart which o
+paintNumbered none o = none
 
--- The same, computed from a table.
-abbrev pub paintComputed : (contents bodies : List ℕ) → ℕ → Option Which → PaintAnswer
-paintComputed contents bodies row (some which) = paintAnswer contents bodies row which
-paintComputed contents bodies row none = paintValue (partIn (λ d o. none) (drawingOfTable contents bodies) row)
-
--- What `jdr_paint` promises, for every two runs of words, every row and every number of a part: its equation, and the same of the drawing.
-pub record GivesPaint (contents bodies : List ℕ) (row which : ℕ) (r : GivenPaint) : Type 0 where
+-- What `jdr_paint` promises, for every two runs of words, every row and every number of a part: the struct for the drawing's paint, and by an equation
+-- that computes it.
+pub record PaintsForC (contents bodies : List ℕ) (row which : ℕ) (r : GivenPaint) : Type 0 where
+  pub decides : OfTable contents bodies (λ d. paintStruct (paintOf (partOf (paintNumbered (partNumbered which)) row d))) (paintStruct (paintOf (refusal 16))) r
   pub says : r ≡ paintStruct (paintGiven (paintComputed contents bodies row (partNumbered which)))
-  pub decides : OfTable contents bodies (λ d. paintStruct (paintGiven (paintNumbered (partNumbered which) row d))) (paintStruct (paintGiven (Refused 16))) r

@@ -1,8 +1,8 @@
 // The calls of `jdr` for programs in other languages, under names of C and with C's way of passing: a slice is a pointer and a length in elements, an
 // answer a struct by value. include/jdr.h declares them. Each has the contract of the call that it passes on to (`jdr_paint` the same, said of a struct),
-// and asks nothing of its inputs but what C cannot say: that a run is as long as it is said to be, and that one lent for writing overlaps no other.
+// and asks nothing of its inputs but what C cannot say: that a run is aligned and as long as it is said to be, and that one lent for writing overlaps no other.
 ghost use Rattle.promises.specs.Promises.{Reads, Checks, Writes, Lists, Texts};
-ghost use Rattle.jdr_c.specs.Values.{GivesPaint};
+ghost use Rattle.jdr_c.specs.Values.{PaintsForC};
 use jdr::Answer;
 use jdr::TextAnswer;
 
@@ -15,7 +15,7 @@ pub struct Color {
     pub components: [f32; 5],
 }
 
-// A paint, or a refusal's number: 0 plain, 1 linear, 2 radial, the gradient's integer, and the one or two plain paints.
+// A paint. `number`: 0, or the refusal's; `form`: 0 plain, 1 linear, 2 radial; `place`: the gradient's integer, else 0; and the one or two plain paints.
 #[repr(C)]
 pub struct GivenPaint {
     pub number: u32,
@@ -65,7 +65,7 @@ pub extern "C" fn jdr_list(
 // `jdr::paint`, with a number for the part: 0 line, 1 fill, 2 text, and any other for one that no object has.
 #[no_mangle]
 pub extern "C" fn jdr_paint(contents: &[u32], bodies: &[u32], row: u32, which: u32) -> GivenPaint
-    ensures { λ r. ⌜ GivesPaint (now (contents .entry)) (now (bodies .entry)) row which r ⌝ }
+    ensures { λ r. ⌜ PaintsForC (now (contents .entry)) (now (bodies .entry)) row which r ⌝ }
 {
     paint::given(paint::asked(contents, bodies, row, which))
 }

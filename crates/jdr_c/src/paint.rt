@@ -2,7 +2,8 @@
 ghost use mathlib.Core.Path.{_≡_};
 ghost use mathlib.Core.Option.{none};
 ghost use Rattle.drawing.specs.Questions.{paintGiven};
-ghost use Rattle.jdr_c.specs.Values.{colorOf, paintStruct, partNumbered, paintComputed};
+ghost use Rattle.jdr_c.specs.Values.{colorOf, paintStruct, partNumbered};
+ghost use Rattle.jdr_c.specs.PaintComputed.{paintComputed};
 use crate::Color;
 use crate::GivenPaint;
 use drawing::Paint;

@@ -48,6 +48,14 @@ row-object d r h = let l = rows-preorder (outer d) in element-at (objectsOf d) r
 pub no-row : (d : Drawing) (r : ℕ) → rowsOf d ≤ r → getElem? (objectsOf d) r ≡ none
 no-row d r h = let l = rows-preorder (outer d) in no-element (objectsOf d) r (omega arith)
 
+-- What a row number finds has that row.
+pub object-row : (d : Drawing) (r : ℕ) (o : Object) → getElem? (objectsOf d) r ≡ some o → (r < rowsOf d) × (getD (objectsOf d) r (outer d) ≡ o)
+object-row d r o is = by (ltb r (rowsOf d)) refl
+  where
+    by : (b : Bool) → ltb r (rowsOf d) ≡ b → (r < rowsOf d) × (getD (objectsOf d) r (outer d) ≡ o)
+    by true h = let less = ltb-true r (rowsOf d) h in (less, let e = sym (row-object d r less) ∙ is in cc)
+    by false h = let e = sym (no-row d r (ltb-false r (rowsOf d) h)) ∙ is in let z : _≡_ {A = ℕ} 0 1 = cc in absurd (omega arith)
+
 pub drop-objects : (d : Drawing) (i : ℕ) → i < rowsOf d → drop i (objectsOf d) ≡ getD (objectsOf d) i (outer d) ∷ drop (suc i) (objectsOf d)
 drop-objects d i h = let l = rows-preorder (outer d) in drop-cons (objectsOf d) i (outer d) (omega arith)
 
@@ -141,14 +149,7 @@ row-body c bs d t r h =
 
 -- The same, of the object that a row number finds.
 pub object-body : (c bs : List ℕ) (d : Drawing) → IsTable c bs d → (r : ℕ) (o : Object) → getElem? (objectsOf d) r ≡ some o → RowBody c bs (d .version) r o
-object-body c bs d t r o is = by (ltb r (rowsOf d)) refl
-  where
-    by : (b : Bool) → ltb r (rowsOf d) ≡ b → RowBody c bs (d .version) r o
-    by true h =
-        let less = ltb-true r (rowsOf d) h in
-        let same : getD (objectsOf d) r (outer d) ≡ o = let e = sym (row-object d r less) ∙ is in cc in
-        subst (RowBody c bs (d .version) r) same (row-body c bs d t r less)
-    by false h = let e = sym (no-row d r (ltb-false r (rowsOf d) h)) ∙ is in let z : _≡_ {A = ℕ} 0 1 = cc in absurd (omega arith)
+object-body c bs d t r o is = let at = object-row d r o is in subst (RowBody c bs (d .version) r) (at .1) (row-body c bs d t r (at .0))
 
 -- The end of a row's object is good.
 pub end-good : (c bs : List ℕ) (v r : ℕ) (o : Object) → RowBody c bs v r o → objectEnd v .Good (descriptionOf o)

@@ -14,6 +14,7 @@ use Rattle.drawing.specs.Table.{wordsOf, startIn}
 use Rattle.drawing.specs.Order.{descriptionOf}
 use Rattle.laws.specs.EqualLaws.{equal-refl, equal-true}
 use Rattle.laws.specs.RowBodies.{ownWords, RowBody}
+use Rattle.laws.specs.RowBodyLaws.{end-good}
 use Rattle.laws.specs.WordLaws.{string-words, early-end}
 use Rattle.places.specs.Rows.{Describes}
 use Rattle.laws.specs.StandingLaws.{first-word}

@@ -12,9 +12,9 @@ use Rattle.drawing.specs.Drawing.{Drawing, outer}
 use Rattle.drawing.specs.TableDrawing.{drawingOfTable}
 use Rattle.drawing.specs.Order.{objectsOf}
 use Rattle.drawing.specs.Answers.{rowsOf}
-use Rattle.drawing.specs.Computed.{checkFrom, partIn}
+use Rattle.drawing.specs.Computed.{fromTable, checkFrom}
 use Rattle.promises.specs.Promises.{Checks}
-use Rattle.drawing.specs.Questions.{refusal, orRefusal, partAt}
+use Rattle.drawing.specs.Questions.{Found, refusal, orRefusal, partAt, partOf}
 use Rattle.laws.specs.TableLaws.{drawing-of-table}
 use Rattle.laws.specs.RowBodies.{RowBody}
 use Rattle.laws.specs.RowBodyLaws.{row-object, no-row, version-word}
@@ -33,26 +33,32 @@ pub record Asked (contents bodies : List ℕ) (row : ℕ) : Type 0 where
   pub body : RowBody contents bodies (getD bodies 0 0) row object
   pub has : HasRow contents bodies (getD bodies 0 0) row
 
-pub asked-part : {A : Type 0} (has : Drawing → Object → Option A) {c bs : List ℕ} {row : ℕ} → (asked : Asked c bs row)
-    → partIn has (drawingOfTable c bs) row ≡ orRefusal 7 (has (asked .d) (asked .object))
-asked-part has {row = row} asked = ap (λ o. partIn has o row) (asked .is) ∙ ap (partAt (has (asked .d))) (asked .object-is)
+-- A question about a part, answered by what is made of the part in the drawing.
+module _ {A R : Type 0} (has : Object → Option A) (make : Drawing → Found A → R) (bad : R) where
+  abbrev pub answered : (contents bodies : List ℕ) → ℕ → R
+  answered contents bodies row = fromTable (λ d. make d (partOf has row d)) bad (drawingOfTable contents bodies)
+
+  pub asked-part : {c bs : List ℕ} {row : ℕ} → (asked : Asked c bs row) → answered c bs row ≡ make (asked .d) (orRefusal 7 (has (asked .object)))
+  asked-part {row = row} asked = ap (fromTable (λ d. make d (partOf has row d)) bad) (asked .is) ∙ ap (λ x. make (asked .d) (partAt has x)) (asked .object-is)
+
+  pub no-table : {c bs : List ℕ} {a : Answer} → Checks c bs a → (row : ℕ) → (a .number ≡ 0 → ⊥) → answered c bs row ≡ bad
+  no-table {c} {bs} checks row gone = by (drawingOfTable c bs) refl
+    where
+      by : (o : Option Drawing) → drawingOfTable c bs ≡ o → answered c bs row ≡ bad
+      by none is = ap (fromTable (λ d. make d (partOf has row d)) bad) is
+      by (some d) is = absurd (gone (ap (λ x. x .number) (checks .says ∙ ap checkFrom is)))
+
+  -- Whatever the drawing is, this is made of the refusal of a row that it does not have.
+  pub no-such-row : {c bs : List ℕ} {a : Answer} → Checks c bs a → (row : ℕ) → a .number ≡ 0 → a .rows ≤ row → {r : R} → ((d : Drawing) → r ≡ make d (refusal 6)) → r ≡ answered c bs row
+  no-such-row checks row good past made =
+      let at = checked-drawing checks good in
+      let d = at .0 in
+      made d ∙ sym (ap (fromTable (λ d. make d (partOf has row d)) bad) (at .1 .0) ∙ ap (λ x. make d (partAt has x)) (no-row d row (omega (arith, at .1 .1, past))))
 
 module _ {c bs : List ℕ} {a : Answer} (checks : Checks c bs a) (row : ℕ) where
-  pub no-table : {A : Type 0} (has : Drawing → Object → Option A) → (a .number ≡ 0 → ⊥) → partIn has (drawingOfTable c bs) row ≡ refusal 16
-  no-table has bad = by (drawingOfTable c bs) refl
-    where
-      by : (o : Option Drawing) → drawingOfTable c bs ≡ o → partIn has (drawingOfTable c bs) row ≡ refusal 16
-      by none is = ap (λ o. partIn has o row) is
-      by (some d) is = absurd (bad (ap (λ x. x .number) (checks .says ∙ ap checkFrom is)))
-
   module _ (good : a .number ≡ 0) where
     checked : (d : Drawing) × ((drawingOfTable c bs ≡ some d) × (a .rows ≡ rowsOf d))
     checked = checked-drawing checks good
-
-    pub no-such-row : {A : Type 0} (has : Drawing → Object → Option A) → a .rows ≤ row → partIn has (drawingOfTable c bs) row ≡ refusal 6
-    no-such-row has past =
-        let d = checked .0 in
-        ap (λ o. partIn has o row) (checked .1 .0) ∙ ap (partAt (has d)) (no-row d row (omega (arith, checked .1 .1, past)))
 
     pub asked : Below (2 ^ 32) bs → row < a .rows → Asked c bs row
     asked below inside =

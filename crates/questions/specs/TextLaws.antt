@@ -1,6 +1,6 @@
 -- Where the fields of a row's text stand, and the chars of its strings.
 use mathlib.Core.Path.{_≡_, refl, sym, ap, ap₂, _∙_}
-use mathlib.Core.Option.{Option, none, some, Option·map}
+use mathlib.Core.Option.{Option, none, some}
 use Prim.Native.Nat.{ℕ, _+_, _-_, _<_, _≤_}
 use native.Mathlib.Omega.{arith}
 use mathlib.Core.List.{List, []}
@@ -16,7 +16,8 @@ use Rattle.drawing.specs.Text as T
 use Rattle.drawing.specs.Object.{path, text, bitmap, Object, leaf, group}
 use Rattle.drawing.specs.ObjectId.{textOf}
 use Rattle.drawing.specs.Table.{wordsOf, kindIn, startIn}
-use Rattle.drawing.specs.Questions.{orRefusal, leafPart, span, beforeText, alternativeSpan, noText, textValue}
+use Rattle.drawing.specs.Questions.{orRefusal, leafPart, span, beforeText, alternativeSpan, noText, textPlaces}
+use Rattle.drawing.specs.Computed.{textValue}
 use Rattle.laws.specs.RowBodies.{RowBody}
 use Rattle.laws.specs.WordLaws.{string-words}
 use Rattle.places.specs.Places.{Holds}
@@ -71,7 +72,7 @@ module _ (c bs : List ℕ) (v r : ℕ) where
   of-text P by (group os d) row kind = absurd (omega (arith, row .kind-is))
 
   abbrev pub answered : Object → TextAnswer
-  answered o = textValue (startIn c r) (orRefusal 7 (Option·map (λ t. (v, t)) (leafPart textOf o)))
+  answered o = textValue (textPlaces (startIn c r) v (orRefusal 7 (leafPart textOf o)))
 
   abbrev behindLatex : Layout (P.Paint × String)
   behindLatex = P.paint v & string 1
@@ -129,7 +130,7 @@ module _ (c bs : List ℕ) (v r : ℕ) where
         text-answered {a} {s} alternative-is text-is =
             of-text (λ x. record { number = 0; alternative = a; text = s } ≡ answered x) (λ t d row. text-spans latex-is t d row paint-is chars-are alternative-is text-is) o row kind
 
-  pub no-text-answered : (o : Object) → RowBody c bs v r o → (kindIn c r ≡ 3 → ⊥) → noText 7 ≡ answered o
+  pub no-text-answered : (o : Object) → RowBody c bs v r o → (kindIn c r ≡ 3 → ⊥) → textValue (noText 7) ≡ answered o
   no-text-answered (leaf (path p) d) row other = refl
   no-text-answered (leaf (text t) d) row other = absurd (other (row .kind-is))
   no-text-answered (leaf (bitmap b) d) row other = refl

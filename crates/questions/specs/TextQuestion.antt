@@ -1,6 +1,6 @@
 -- How the text question is answered, and how the strings that stand at places are read.
 use mathlib.Core.Path.{_≡_}
-use mathlib.Core.Option.{Option, none, some, Option·map}
+use mathlib.Core.Option.{Option, none, some}
 use Prim.Native.Nat.{ℕ, _+_}
 use mathlib.Core.List.{List}
 use lib.ListN.{length}
@@ -12,7 +12,8 @@ use Rattle.drawing.specs.Text as T
 use Rattle.drawing.specs.Object.{Object}
 use Rattle.drawing.specs.ObjectId.{textOf}
 use Rattle.drawing.specs.Table.{wordsOf, startIn}
-use Rattle.drawing.specs.Questions.{orRefusal, leafPart, span, noSpan, textValue}
+use Rattle.drawing.specs.Questions.{orRefusal, leafPart, span, noSpan, textPlaces}
+use Rattle.drawing.specs.Computed.{textValue}
 use Rattle.laws.specs.RowBodies.{RowBody}
 use Rattle.laws.specs.Standing.{Here}
 use Rattle.laws.specs.TextPlaceLaws.{latexFront, latexParts}
@@ -20,7 +21,7 @@ use Rattle.laws.specs.TextPlaceLaws.{latexFront, latexParts}
 -- The answer for the object of a row, in a table of this version.
 abbrev pub TextOf : (contents bodies : List ℕ) → (version row : ℕ) → TextAnswer → Type 0
 TextOf c bs v row r =
-    (o : Object) → RowBody c bs v row o → r ≡ textValue (startIn c row) (orRefusal 7 (Option·map (λ t. (v, t)) (leafPart textOf o)))
+    (o : Object) → RowBody c bs v row o → r ≡ textValue (textPlaces (startIn c row) v (orRefusal 7 (leafPart textOf o)))
 
 -- The chars of the string that stands here.
 abbrev pub CharsRead : (bodies : List ℕ) → ℕ → Span → Type 0

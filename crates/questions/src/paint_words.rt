@@ -7,14 +7,14 @@ ghost use mathlib.Core.Path.{_≡_};
 ghost use Prim.Native.Nat.{_+_, _<_};
 ghost use lib.ListN.{length, getD};
 ghost use Rattle.drawing.specs.Paint as P;
-ghost use Rattle.drawing.specs.Questions.{float, plainValue};
+ghost use Rattle.drawing.specs.Questions.{floatOf, plainValue};
 ghost use Rattle.places.specs.Places.{Holds};
 ghost use Rattle.questions.specs.PaintQuestion.{Number, PlainHere, PaintRead, plainAt};
 
 // A component of a paint, so many words behind its letter.
 fn float_at(words: &[u32], at: usize, i: usize) -> f32
     requires { ⌜ (at + i < length (now words)) × Number (getD (now words) (at + i) 0) ⌝ }
-    ensures { λ r. ⌜ r ≡ float (getD (now (words .entry)) (at + i) 0) ⌝ }
+    ensures { λ r. ⌜ r ≡ floatOf (getD (now (words .entry)) (at + i) 0) ⌝ }
 {
     f32::from_bits(words[at + i])
 }

@@ -9,6 +9,7 @@ ghost use Prim.Native.Nat.{_<_, _≤_};
 ghost use lib.ListN.{length};
 ghost use Rattle.promises.specs.Promises.{Texts};
 ghost use Rattle.drawing.specs.Questions.{noText};
+ghost use Rattle.drawing.specs.Computed.{textValue};
 ghost use Rattle.drawing.specs.Limits.{lengthLimit};
 ghost use Rattle.drawing.specs.Choices.{ifFlag};
 ghost use Rattle.drawing.specs.Text as T;
@@ -17,7 +18,7 @@ ghost use Rattle.places.specs.Places.{Holds};
 ghost use Rattle.questions.specs.TextQuestion.{CharsRead, AlternativeRead, TextOf};
 
 fn refused(number: u32) -> TextAnswer
-    ensures { λ r. ⌜ r ≡ noText number ⌝ }
+    ensures { λ r. ⌜ r ≡ textValue (noText number) ⌝ }
 {
     TextAnswer {
         number: number,

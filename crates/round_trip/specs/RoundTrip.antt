@@ -9,9 +9,8 @@ use Rattle.drawing.specs.declared.Answer.{Answer}
 use Rattle.drawing.specs.String.{String}
 use Rattle.drawing.specs.Text.{Text}
 use Rattle.drawing.specs.ObjectId.{textOf}
-use Rattle.drawing.specs.Drawing.{Drawing}
 use Rattle.drawing.specs.Table.{rowWidth}
-use Rattle.drawing.specs.Answers.{overwrite}
+use Rattle.drawing.specs.Answers.{answer, overwrite}
 use Rattle.drawing.specs.Questions.{Found, part, refusal, partOf, leafPart, shownChars}
 use Rattle.promises.specs.Promises.{Reads, OfTable, Checks, Writes}
 use Rattle.round_trip.specs.declared.Both.{Both}
@@ -25,28 +24,22 @@ pub record FileComesBack (file contents bodies copy contents′ bodies′ copy�
   pub back : r .first .number ≡ 0 → length file ≤ length copy → (r .second ≡ r .first) × (copy′ ≡ overwrite file copy)
 
 -- A table that is written and read again. It is read only if it was written; otherwise the second answer is the first.
-pub record TableComesBack (contents bodies file rows words file′ rows′ words′ : List ℕ) (r : Both) : Type 0 where
+pub record TableComesBack (contents bodies file contents₂ bodies₂ file′ contents₂′ bodies₂′ : List ℕ) (r : Both) : Type 0 where
   pub writes : Writes contents bodies file (r .first) file′
-  pub reads : r .first .number ≡ 0 → Reads (take (r .first .offset) file′) rows words (r .second) rows′ words′
-  pub refused : (r .first .number ≡ 0 → ⊥) → (r .second ≡ r .first) × (rows′ ≡ rows) × (words′ ≡ words)
+  pub reads : r .first .number ≡ 0 → Reads (take (r .first .offset) file′) contents₂ bodies₂ (r .second) contents₂′ bodies₂′
+  pub refused : (r .first .number ≡ 0 → ⊥) → (r .second ≡ r .first) × (contents₂′ ≡ contents₂) × (bodies₂′ ≡ bodies₂)
   -- a table that was written reads back to itself, given room, and nothing past it changes
-  pub back : r .first .number ≡ 0 → length contents ≤ length rows → length bodies ≤ length words
-      → (r .second ≡ r .first) × (rows′ ≡ overwrite contents rows) × (words′ ≡ overwrite bodies words)
+  pub back : r .first .number ≡ 0 → length contents ≤ length contents₂ → length bodies ≤ length bodies₂
+      → (r .second ≡ r .first) × (contents₂′ ≡ overwrite contents contents₂) × (bodies₂′ ≡ overwrite bodies bodies₂)
 
--- A read that gave just this table.
-pub record Gives (contents bodies : List ℕ) (r : Answer) (contents′ bodies′ : List ℕ) : Type 0 where
-  pub accepted : r .number ≡ 0
-  pub rows-are : rowWidth * r .rows ≡ length contents
-  pub words-are : r .words ≡ length bodies
-  pub contents-are : contents′ ≡ contents
-  pub bodies-are : bodies′ ≡ bodies
-
--- Some file of bytes gives the table: every read of it does that is lent just the room, whatever this held.
+-- Some file of bytes gives the table: read into just that room, whatever this held, it is accepted and leaves this table there.
 pub record Given (contents bodies : List ℕ) : Type 0 where
   pub file : List ℕ
   pub of-bytes : Below 256 file
-  pub gives : (rows words rows′ words′ : List ℕ) (r : Answer) → length rows ≡ length contents → length words ≡ length bodies
-      → Reads file rows words r rows′ words′ → Gives contents bodies r rows′ words′
+  pub rows : ℕ
+  pub rows-are : rowWidth * rows ≡ length contents
+  pub gives : (contents₂ bodies₂ : List ℕ) → length contents₂ ≡ length contents → length bodies₂ ≡ length bodies
+      → Reads file contents₂ bodies₂ (answer 0 (length file) rows (length bodies)) contents bodies
 
 -- A table is checked with 0 exactly when some file gives it.
 pub record Checked (contents bodies : List ℕ) (r : Answer) : Type 0 where

@@ -1,5 +1,5 @@
 -- Demand 2 of the calls, from what each call promises.
-use mathlib.Core.Path.{_≡_, refl, sym, ap, subst, _∙_}
+use mathlib.Core.Path.{_≡_, refl, sym, ap, ap₂, subst, _∙_}
 use mathlib.Core.Option.{Option, none, some}
 use Prim.Native.Nat.{ℕ, _*_, _/_, _^_, _≤_}
 use native.Mathlib.Omega.{arith}
@@ -21,7 +21,7 @@ use Rattle.laws.specs.CodecLaws.{bytes-sensible}
 use Rattle.laws.specs.OrderLaws.{contents-length}
 use Rattle.laws.specs.TableLaws.{drawing-of-table}
 use Rattle.laws.specs.AnswerLaws.{Accepted, read-accepts, read-gives, Writable, write-accepts, write-gives, read-then-write, write-then-read}
-use Rattle.round_trip.specs.RoundTrip.{FileComesBack, TableComesBack, Gives, Given, Checked}
+use Rattle.round_trip.specs.RoundTrip.{FileComesBack, TableComesBack, Given, Checked}
 
 -- ---- a file
 
@@ -121,29 +121,29 @@ table-checked {contents} {bodies} {a} below checks = record { checks = checks; e
         record {
           file = fileOf d;
           of-bytes = bytes;
-          gives = λ c b c′ b′ r same-rows same-words read.
+          rows = rowsOf d;
+          rows-are = sym rows;
+          gives = λ c b same-rows same-words.
               let accepted : Accepted (fileOf d) c b = record { drawing = d; acceptable = table .acceptable; file-is = refl; rows-fit = omega (arith, rows, same-rows); words-fit = omega (arith, words, same-words) } in
-              let result = read .says ∙ read-gives (fileOf d) c b bytes accepted in
-              record {
-                accepted = ap (λ (x : ReadResult). x .answer .number) result;
-                rows-are = ap (λ (x : ReadResult). 4 * x .answer .rows) result ∙ sym rows;
-                words-are = ap (λ (x : ReadResult). x .answer .words) result ∙ sym words;
-                contents-are = ap (λ (x : ReadResult). x .contents) result ∙ overwrite-all (contentsOf d) c (same-rows ∙ ap length (table .contents-are)) ∙ sym (table .contents-are);
-                bodies-are = ap (λ (x : ReadResult). x .bodies) result ∙ overwrite-all (bodiesOf d) b (same-words ∙ ap length (table .bodies-are)) ∙ sym (table .bodies-are);
-              };
+              let left-contents = overwrite-all (contentsOf d) c (same-rows ∙ ap length (table .contents-are)) ∙ sym (table .contents-are) in
+              let left-bodies = overwrite-all (bodiesOf d) b (same-words ∙ ap length (table .bodies-are)) ∙ sym (table .bodies-are) in
+              reads bytes
+              (sym
+              (read-gives (fileOf d) c b bytes accepted
+              ∙ ap₂ (λ x y. record { answer = answer 0 (length (fileOf d)) (rowsOf d) (wordCount d); contents = x; bodies = y }) left-contents left-bodies
+              ∙ ap (λ y. record { answer = answer 0 (length (fileOf d)) (rowsOf d) y; contents = contents; bodies = bodies }) (sym words)));
         }
 
     back : Given contents bodies → a .number ≡ 0
     back given =
-        let computed = readResult (given .file) contents bodies in
-        let here = given .gives contents bodies (computed .contents) (computed .bodies) (computed .answer) refl refl (reads (given .of-bytes) refl) in
-        let accepted = read-accepts (given .file) contents bodies (given .of-bytes) .0 (here .accepted) in
+        let here = sym (given .gives contents bodies refl refl .says) in
+        let accepted = read-accepts (given .file) contents bodies (given .of-bytes) .0 (ap (λ (r : ReadResult). r .answer .number) here) in
         let d = accepted .drawing in
-        let result = read-gives (given .file) contents bodies (given .of-bytes) accepted in
-        let rows : 4 * rowsOf d ≡ length contents = subst (λ (r : ReadResult). 4 * r .answer .rows ≡ length contents) result (here .rows-are) in
-        let words : wordCount d ≡ length bodies = subst (λ (r : ReadResult). r .answer .words ≡ length bodies) result (here .words-are) in
-        let long : length contents ≡ length (contentsOf d) = sym rows ∙ sym (contents-length (outer d) (d .version) 0 0 (length (headWords d))) in
-        let contents-are : contents ≡ contentsOf d = sym (subst (λ (r : ReadResult). r .contents ≡ contents) result (here .contents-are)) ∙ overwrite-all (contentsOf d) contents long in
-        let bodies-are : bodies ≡ bodiesOf d = sym (subst (λ (r : ReadResult). r .bodies ≡ bodies) result (here .bodies-are)) ∙ overwrite-all (bodiesOf d) bodies (sym words) in
+        let result = sym (read-gives (given .file) contents bodies (given .of-bytes) accepted) ∙ here in
+        let words : wordCount d ≡ length bodies = ap (λ (r : ReadResult). r .answer .words) result in
+        let rows : rowsOf d ≡ given .rows = ap (λ (r : ReadResult). r .answer .rows) result in
+        let long : length contents ≡ length (contentsOf d) = sym (given .rows-are) ∙ ap (λ n. 4 * n) (sym rows) ∙ sym (contents-length (outer d) (d .version) 0 0 (length (headWords d))) in
+        let contents-are : contents ≡ contentsOf d = sym (ap (λ (r : ReadResult). r .contents) result) ∙ overwrite-all (contentsOf d) contents long in
+        let bodies-are : bodies ≡ bodiesOf d = sym (ap (λ (r : ReadResult). r .bodies) result) ∙ overwrite-all (bodiesOf d) bodies (sym words) in
         let is = drawing-of-table contents bodies below d .1 (record { acceptable = accepted .acceptable; contents-are = contents-are; bodies-are = bodies-are }) in
         ap (λ (x : Answer). x .number) (checks .says ∙ ap checkFrom is)

@@ -1,6 +1,9 @@
 // Demand 2 of the calls themselves: what is read comes back when it is written, what is written comes back when it is read, and a table is checked
 // with 0 exactly when some file gives it. And the text to show of a row, found by two calls.
 use drawing::Answer;
+ghost use mathlib.Core.Path.{_≡_};
+ghost use Prim.Native.Nat.{_+_, _≤_};
+ghost use lib.ListN.{length, take, drop};
 ghost use Rattle.round_trip.specs.RoundTrip.{FileComesBack, TableComesBack, Checked, ShowsText};
 
 // The answers of two calls, one after the other; the second is the first's where that refused.
@@ -66,7 +69,17 @@ pub fn checked(contents: &[u32], bodies: &[u32]) -> Answer
     jdr::check(contents, bodies)
 }
 
-// The chars to show of a row's text, as a run of the bodies: no chars where there is no such text.
+// So many words from a place on.
+fn run<'a>(words: &'a [u32], start: u32, count: u32) -> &'a [u32]
+    requires { ⌜ start + count ≤ length (now words) ⌝ }
+    ensures { λ r. ⌜ now r ≡ take count (drop start (now (words .entry))) ⌝ }
+{
+    let from = start as usize;
+    let to = from + count as usize;
+    &words[from..to]
+}
+
+// The text to show of a row, found by the text question and taken from the bodies; no chars where there is no such text.
 pub fn shown_text<'a>(contents: &[u32], bodies: &'a [u32], row: u32) -> &'a [u32]
     ensures { λ r. ⌜ ShowsText (now (contents .entry)) (now (bodies .entry)) row (now r) ⌝ }
 {
@@ -76,9 +89,8 @@ pub fn shown_text<'a>(contents: &[u32], bodies: &'a [u32], row: u32) -> &'a [u32
     }
     let alternative = asked.alternative;
     let plain = asked.text;
-    let from = alternative.start as usize;
-    let to = from + alternative.length as usize;
-    let start = plain.start as usize;
-    let end = start + plain.length as usize;
-    jdr::shown(&bodies[from..to], &bodies[start..end])
+    jdr::shown(
+        run(bodies, alternative.start, alternative.length),
+        run(bodies, plain.start, plain.length),
+    )
 }

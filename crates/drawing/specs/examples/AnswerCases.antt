@@ -6,19 +6,15 @@ use lib.ListN.{length}
 use Rattle.drawing.specs.declared.Paint as Enum
 use Rattle.drawing.specs.declared.Paint.the-variants as Case
 use Rattle.drawing.specs.declared.PaintAnswer.the-variants.{Refused, Plain, Linear, Radial}
-use Rattle.drawing.specs.Answers.{answer}
-use Rattle.drawing.specs.Questions.{float, PaintGiven, paintGiven, shown}
+use Rattle.drawing.specs.Questions.{floatOf, given, paintGiven, shown}
 use Rattle.drawing.specs.examples.Bytes.{codes}
 
 -- The paints of the cases; their components do not matter here.
 abbrev grey : Enum.Paint
-grey = Case.Grey (float 0) (float 1)
+grey = Case.Grey (floatOf 0) (floatOf 1)
 
 abbrev rgb : Enum.Paint
-rgb = Case.Rgb (float 2) (float 3) (float 4) (float 5)
-
-abbrev given : (number form : ℕ) (first second : Enum.Paint) → ℕ → PaintGiven
-given n form first second integer = record { answer = answer n 0 0 0; form = form; first = first; second = second; directionOrLocation = integer }
+rgb = Case.Rgb (floatOf 2) (floatOf 3) (floatOf 4) (floatOf 5)
 
 -- A refusal's paint is transparent; a plain paint is the first of two; a gradient has its two plain paints and its integer.
 cases : map paintGiven (Refused 16 ∷ Refused 6 ∷ Plain grey ∷ Linear grey rgb 7 ∷ Radial rgb grey 8 ∷ [])

@@ -4,7 +4,7 @@ use Rattle.drawing.specs.Questions.{paintGiven}
 use Rattle.format.specs.LeafLaws.{known-below}
 use mir.Syntax.{w32}
 use Rattle.jdr_c.specs.Values.{paintStruct}
-use Rattle.jdr_c.specs.ValueLaws.{gives-paint}
+use Rattle.jdr_c.specs.ValueLaws.{paints-for-c}
 use borrow.Author.Needs.{needs}
 use Rattle.jdr_c.proofs.jdr_paint.Statement.{statement}
 use Rattle.jdr_c.proofs.jdr_paint.Tie as tie
@@ -12,7 +12,7 @@ use Rattle.jdr_c.proofs.jdr_paint.Tie as tie
 returns : tie.Need-returns
 returns c =
     let start = c .before .before .before .before in
-    gives-paint (known-below w32 (start .args .bodies .now) (c .before .before .shared-slice-known2 .given))
+    paints-for-c (known-below w32 (start .args .bodies .now) (c .before .before .shared-slice-known2 .given))
     (c .given .ensures ∙ ap (λ a. paintStruct (paintGiven a)) (c .before .asked .ensures))
 
 pub jdr-paint-spec : {M : Type 1} → statement M

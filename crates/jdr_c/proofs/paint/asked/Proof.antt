@@ -6,7 +6,8 @@ use Prim.Native.Nat.{ℕ}
 use borrow.Author.Needs.{needs}
 use borrow.Author.Tests.{ne-eqb}
 use Rattle.drawing.specs.declared.PaintAnswer.{PaintAnswer}
-use Rattle.jdr_c.specs.Values.{partNumbered, paintComputed}
+use Rattle.jdr_c.specs.Values.{partNumbered}
+use Rattle.jdr_c.specs.PaintComputed.{paintComputed}
 use Rattle.jdr_c.proofs.paint.asked.Statement.{statement}
 use Rattle.jdr_c.proofs.paint.asked.Tie as tie
 

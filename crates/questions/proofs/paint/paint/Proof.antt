@@ -4,7 +4,8 @@ use Rattle.drawing.specs.Questions.{paintPart, paintValue}
 use Rattle.format.specs.LeafLaws.{known-below}
 use Rattle.promises.specs.PromiseLaws.{paints}
 use mir.Syntax.{w32}
-use mathlib.Core.Path.{sym, ap, _∙_}
+use mathlib.Core.Path.{refl, sym, _∙_}
+use Rattle.drawing.specs.declared.PaintAnswer.the-variants.{Refused}
 use native.Mathlib.Omega.{arith}
 use borrow.Author.Needs.{needs}
 use Rattle.questions.proofs.paint.paint.Statement.{statement}
@@ -18,10 +19,10 @@ check-requires : tie.Need-check-requires
 check-requires c κs = search needs
 
 returns : tie.Need-returns
-returns c = paints (known-below w32 (c .before .before .before .before .before .args .words .now) (c .before .before .before .shared-slice-known2 .given)) (sym (ap paintValue (no-table (c .before .before .check .ensures) (c .before .before .before .before .before .args .row) (λ d o. paintPart (c .before .before .before .before .before .args .which) o) (c .if1 .taken))))
+returns c = paints (known-below w32 (c .before .before .before .before .before .args .words .now) (c .before .before .before .shared-slice-known2 .given)) (sym (no-table (paintPart (c .before .before .before .before .before .args .which)) (λ d. paintValue) (Refused 16) (c .before .before .check .ensures) (c .before .before .before .before .before .args .row) (c .if1 .taken)))
 
 returns-2 : tie.Need-returns-2
-returns-2 c = paints (known-below w32 (c .before .before .before .before .before .before .before .args .words .now) (c .before .before .before .before .before .shared-slice-known2 .given)) (sym (ap paintValue (no-such-row (c .before .before .before .before .check .ensures) (c .before .before .before .before .before .before .before .args .row) (c .before .before .if1 .left) (λ d o. paintPart (c .before .before .before .before .before .before .before .args .which) o) (c .if2 .taken))))
+returns-2 c = paints (known-below w32 (c .before .before .before .before .before .before .before .args .words .now) (c .before .before .before .before .before .shared-slice-known2 .given)) (no-such-row (paintPart (c .before .before .before .before .before .before .before .args .which)) (λ d. paintValue) (Refused 16) (c .before .before .before .before .check .ensures) (c .before .before .before .before .before .before .before .args .row) (c .before .before .if1 .left) (c .if2 .taken) (λ d. refl))
 
 shared-slice-read-version : tie.Need-shared-slice-read-version
 shared-slice-read-version c = (asked (c .before .before .before .before .before .check .ensures) (c .before .before .before .before .before .before .before .before .args .row) (c .before .before .before .if1 .left) (known-below w32 (c .before .before .before .before .before .before .before .before .args .words .now) (c .before .before .before .before .before .before .shared-slice-known2 .given)) (omega (arith, c .before .if2 .left))) .begun
@@ -31,7 +32,7 @@ paint-of-requires c κs = (asked (c .before .before .before .before .before .che
 
 returns-3 : tie.Need-returns-3
 returns-3 c = let it = (asked (c .before .before .before .before .before .before .check .ensures) (c .before .before .before .before .before .before .before .before .before .args .row) (c .before .before .before .before .if1 .left) (known-below w32 (c .before .before .before .before .before .before .before .before .before .args .words .now) (c .before .before .before .before .before .before .before .shared-slice-known2 .given)) (omega (arith, c .before .before .if2 .left))) in
-    paints (known-below w32 (c .before .before .before .before .before .before .before .before .before .args .words .now) (c .before .before .before .before .before .before .before .shared-slice-known2 .given)) (c .paint-of .ensures (it .object) (it .body) ∙ sym (ap paintValue (asked-part (λ d o. paintPart (c .before .before .before .before .before .before .before .before .before .args .which) o) it)))
+    paints (known-below w32 (c .before .before .before .before .before .before .before .before .before .args .words .now) (c .before .before .before .before .before .before .before .shared-slice-known2 .given)) (c .paint-of .ensures (it .object) (it .body) ∙ sym (asked-part (paintPart (c .before .before .before .before .before .before .before .before .before .args .which)) (λ d. paintValue) (Refused 16) it))
 
 pub paint-spec : {M : Type 1} → statement M
 paint-spec =

@@ -1,13 +1,13 @@
 -- `questions::text::text` meets its contract.
 use Rattle.questions.specs.RowQuestions.{no-table, no-such-row, asked, asked-part}
-use Rattle.drawing.specs.Questions.{orRefusal, leafPart, textValue}
+use Rattle.drawing.specs.Questions.{orRefusal, leafPart, noText, textPlaces}
+use Rattle.drawing.specs.Computed.{textValue}
 use Rattle.drawing.specs.ObjectId.{textOf}
 use Rattle.drawing.specs.Table.{startIn}
 use Rattle.format.specs.LeafLaws.{known-below}
 use Rattle.promises.specs.PromiseLaws.{texts}
 use mir.Syntax.{w32}
 use mathlib.Core.Path.{sym, ap, _∙_}
-use mathlib.Core.Option.{Option·map}
 use native.Mathlib.Omega.{arith}
 use borrow.Author.Needs.{needs}
 use Rattle.questions.proofs.text.text.Statement.{statement}
@@ -25,13 +25,13 @@ refused-requires : tie.Need-refused-requires
 refused-requires c κs = search needs
 
 returns : tie.Need-returns
-returns c = texts (known-below w32 (c .before .before .before .before .before .before .args .words .now) (c .before .before .before .before .shared-slice-known2 .given)) (c .refused .ensures ∙ sym (ap (textValue (startIn (c .before .before .before .before .before .before .args .contents .now) (c .before .before .before .before .before .before .args .row))) (no-table (c .before .before .before .check .ensures) (c .before .before .before .before .before .before .args .row) (λ d o. Option·map (λ t. (d .version, t)) (leafPart textOf o)) (c .before .if1 .taken))))
+returns c = texts (known-below w32 (c .before .before .before .before .before .before .args .words .now) (c .before .before .before .before .shared-slice-known2 .given)) (c .refused .ensures ∙ sym (no-table (leafPart textOf) (λ d x. textValue (textPlaces (startIn (c .before .before .before .before .before .before .args .contents .now) (c .before .before .before .before .before .before .args .row)) (d .version) x)) (textValue (noText 16)) (c .before .before .before .check .ensures) (c .before .before .before .before .before .before .args .row) (c .before .if1 .taken)))
 
 refused-requires-2 : tie.Need-refused-requires-2
 refused-requires-2 c κs = search needs
 
 returns-2 : tie.Need-returns-2
-returns-2 c = texts (known-below w32 (c .before .before .before .before .before .before .before .before .args .words .now) (c .before .before .before .before .before .before .shared-slice-known2 .given)) (c .refused2 .ensures ∙ sym (ap (textValue (startIn (c .before .before .before .before .before .before .before .before .args .contents .now) (c .before .before .before .before .before .before .before .before .args .row))) (no-such-row (c .before .before .before .before .before .check .ensures) (c .before .before .before .before .before .before .before .before .args .row) (c .before .before .before .if1 .left) (λ d o. Option·map (λ t. (d .version, t)) (leafPart textOf o)) (c .before .if2 .taken))))
+returns-2 c = texts (known-below w32 (c .before .before .before .before .before .before .before .before .args .words .now) (c .before .before .before .before .before .before .shared-slice-known2 .given)) (no-such-row (leafPart textOf) (λ d x. textValue (textPlaces (startIn (c .before .before .before .before .before .before .before .before .args .contents .now) (c .before .before .before .before .before .before .before .before .args .row)) (d .version) x)) (textValue (noText 16)) (c .before .before .before .before .before .check .ensures) (c .before .before .before .before .before .before .before .before .args .row) (c .before .before .before .if1 .left) (c .before .if2 .taken) (λ d. c .refused2 .ensures))
 
 shared-slice-read-version : tie.Need-shared-slice-read-version
 shared-slice-read-version c = (asked (c .before .before .before .before .before .check .ensures) (c .before .before .before .before .before .before .before .before .args .row) (c .before .before .before .if1 .left) (known-below w32 (c .before .before .before .before .before .before .before .before .args .words .now) (c .before .before .before .before .before .before .shared-slice-known2 .given)) (omega (arith, c .before .if2 .left))) .begun
@@ -41,8 +41,10 @@ text-of-requires c κs = (asked (c .before .before .before .before .before .chec
 
 returns-3 : tie.Need-returns-3
 returns-3 c = let it = (asked (c .before .before .before .before .before .before .check .ensures) (c .before .before .before .before .before .before .before .before .before .args .row) (c .before .before .before .before .if1 .left) (known-below w32 (c .before .before .before .before .before .before .before .before .before .args .words .now) (c .before .before .before .before .before .before .before .shared-slice-known2 .given)) (omega (arith, c .before .before .if2 .left))) in
-    let value = textValue (startIn (c .before .before .before .before .before .before .before .before .before .args .contents .now) (c .before .before .before .before .before .before .before .before .before .args .row)) in
-    texts (known-below w32 (c .before .before .before .before .before .before .before .before .before .args .words .now) (c .before .before .before .before .before .before .before .shared-slice-known2 .given)) (c .text-of .ensures (it .object) (it .body) ∙ ap (λ v. value (orRefusal 7 (Option·map (λ t. (v, t)) (leafPart textOf (it .object))))) (it .version-is) ∙ sym (ap value (asked-part (λ d o. Option·map (λ t. (d .version, t)) (leafPart textOf o)) it)))
+    texts (known-below w32 (c .before .before .before .before .before .before .before .before .before .args .words .now) (c .before .before .before .before .before .before .before .shared-slice-known2 .given))
+    (c .text-of .ensures (it .object) (it .body)
+    ∙ ap (λ v. textValue (textPlaces (startIn (c .before .before .before .before .before .before .before .before .before .args .contents .now) (c .before .before .before .before .before .before .before .before .before .args .row)) v (orRefusal 7 (leafPart textOf (it .object))))) (it .version-is)
+    ∙ sym (asked-part (leafPart textOf) (λ d x. textValue (textPlaces (startIn (c .before .before .before .before .before .before .before .before .before .args .contents .now) (c .before .before .before .before .before .before .before .before .before .args .row)) (d .version) x)) (textValue (noText 16)) it))
 
 pub text-spec : {M : Type 1} → statement M
 text-spec =
