@@ -6,4 +6,4 @@ use Rattle.text_out.proofs.flush.Statement.{statement}
 use Rattle.text_out.proofs.flush.Tie as tie
 
 pub flush-spec : {M : Type 1} → statement M
-flush-spec = tie.close (tie.spec (λ c. sym (length-take-le _ _ (search needs))) (λ c κs. search needs) (λ c. search needs))
+flush-spec = tie.close (tie.spec (λ c. sym (length-take-le _ _ (search needs))) (λ c κs. search needs) (λ c. search needs) (λ c κs. search needs) (λ c. search needs))
