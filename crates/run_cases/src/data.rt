@@ -31,6 +31,7 @@ pub fn get_words(file: &[u8], words: &mut [u32]) -> usize
     count
 }
 
+// Where a lent part ends that is to be so long: at the end of the run, if that is shorter. Written with its start, as `run[0..end]`, the part needs no proof.
 pub fn least(one: usize, other: usize) -> usize
     ensures { λ r. ⌜ (r ≤ one) × (r ≤ other) ⌝ }
 {

@@ -6,6 +6,7 @@ use crate::group::Group;
 use crate::group::put_answer;
 use crate::group::put_hash;
 use crate::hash;
+use crate::questions;
 use text_out::Buffer;
 
 pub fn put_groups(
@@ -18,7 +19,7 @@ pub fn put_groups(
     let mut chars = [0u16; 64];
     let count = get_chars(label, &mut chars);
     let used = put_lists(buffer, used, contents, bodies, &chars[..count]);
-    crate::questions::put_rows(buffer, used, contents, bodies)
+    questions::put_rows(buffer, used, contents, bodies)
 }
 
 // The list with a large room; and for a table that is listed, with room for the entries, and with one less.
@@ -53,7 +54,8 @@ fn put_group(
     room: usize,
 ) -> Group {
     let mut entries = [FILL; 9400];
-    put_call(buffer, used, contents, bodies, label, &mut entries, room)
+    let end = least(room, 9400);
+    put_call(buffer, used, contents, bodies, label, &mut entries[0..end])
 }
 
 fn put_call(
@@ -63,12 +65,9 @@ fn put_call(
     bodies: &[u32],
     label: &[u16],
     entries: &mut [u32],
-    room: usize,
 ) -> Group {
-    let end = least(room, entries.len());
-    let lent = &mut entries[0..end];
-    let answer = jdr::list(contents, bodies, label, lent);
+    let answer = jdr::list(contents, bodies, label, entries);
     let used = put_answer(buffer, used, answer);
-    let used = put_hash(buffer, used, hash::of_words(lent));
+    let used = put_hash(buffer, used, hash::of_words(entries));
     Group { answer, used }
 }

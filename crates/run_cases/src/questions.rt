@@ -1,7 +1,6 @@
 // The paint and the text question about the rows of a table, as groups of a list case.
 use crate::group::put_hash;
 use crate::hash;
-use crate::hash::with;
 use drawing::Answer;
 use drawing::Span;
 use drawing::TextAnswer;
@@ -54,21 +53,21 @@ fn put_row(buffer: &mut Buffer, used: usize, contents: &[u32], bodies: &[u32], r
 
 // The words of C's structs in their order, floats as their bits.
 fn with_paint(sum: u32, paint: GivenPaint) -> u32 {
-    let sum = with(sum, paint.number);
-    let sum = with(sum, paint.form);
-    let sum = with(sum, paint.place);
+    let sum = hash::with(sum, paint.number);
+    let sum = hash::with(sum, paint.form);
+    let sum = hash::with(sum, paint.place);
     let sum = with_color(sum, paint.first);
     with_color(sum, paint.second)
 }
 
 fn with_color(sum: u32, color: Color) -> u32 {
     let components = color.components;
-    let sum = with(sum, color.kind);
-    let sum = with(sum, bits(components[0]));
-    let sum = with(sum, bits(components[1]));
-    let sum = with(sum, bits(components[2]));
-    let sum = with(sum, bits(components[3]));
-    with(sum, bits(components[4]))
+    let sum = hash::with(sum, color.kind);
+    let sum = hash::with(sum, bits(components[0]));
+    let sum = hash::with(sum, bits(components[1]));
+    let sum = hash::with(sum, bits(components[2]));
+    let sum = hash::with(sum, bits(components[3]));
+    hash::with(sum, bits(components[4]))
 }
 
 // No component is a NaN; one would have the bits of all NaNs here.
@@ -80,12 +79,12 @@ fn bits(component: f32) -> u32 {
 }
 
 fn with_text(sum: u32, answer: TextAnswer) -> u32 {
-    let sum = with(sum, answer.number);
+    let sum = hash::with(sum, answer.number);
     let sum = with_span(sum, answer.alternative);
     with_span(sum, answer.text)
 }
 
 fn with_span(sum: u32, span: Span) -> u32 {
-    let sum = with(sum, span.start);
-    with(sum, span.length)
+    let sum = hash::with(sum, span.start);
+    hash::with(sum, span.length)
 }

@@ -1,5 +1,4 @@
 // Cases of `read`: a data file is a drawing's file.
-ghost use Prim.Native.Nat.{_≤_};
 use crate::data::least;
 use crate::group::FILL;
 use crate::group::Group;
@@ -16,28 +15,16 @@ pub fn put_groups(buffer: &mut Buffer, used: usize, file: &[u8]) -> usize {
     if answer.number != 0 {
         return first.used;
     }
-    put_tight_groups(
-        buffer,
-        first.used,
-        file,
-        4 * answer.rows as usize,
-        answer.words as usize,
-    )
+    put_tight_groups(buffer, first.used, file, answer.rows, answer.words)
 }
 
-fn put_tight_groups(
-    buffer: &mut Buffer,
-    used: usize,
-    file: &[u8],
-    contents: usize,
-    bodies: usize,
-) -> usize
-    requires { ⌜ contents ≤ 17179869180 ⌝ }
-{
-    let more = put_group(buffer, used, file, contents + 3, bodies);
-    let fewer = put_group(buffer, more.used, file, one_less(contents), bodies);
-    let short = put_group(buffer, fewer.used, file, contents, one_less(bodies));
-    short.used
+fn put_tight_groups(buffer: &mut Buffer, used: usize, file: &[u8], rows: u32, words: u32) -> usize {
+    let contents = 4 * rows as usize;
+    let bodies = words as usize;
+    let over = put_group(buffer, used, file, contents + 3, bodies);
+    let short = put_group(buffer, over.used, file, one_less(contents), bodies);
+    let last = put_group(buffer, short.used, file, contents, one_less(bodies));
+    last.used
 }
 
 // One call with rooms of so many words. The contents' run has three words more than the large room: a part of a row.

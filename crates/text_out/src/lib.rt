@@ -42,7 +42,7 @@ pub fn put_next(buffer: &mut Buffer, used: usize, number: u32) -> usize {
 pub fn flush(buffer: &Buffer, used: usize) {
     let whole: &[u8] = buffer;
     if used < 4096 {
-        io::write_all(STDOUT_FILENO, &whole[..used]);
+        io::write_all(STDOUT_FILENO, &whole[0..used]);
         return;
     }
     io::write_all(STDOUT_FILENO, whole);
