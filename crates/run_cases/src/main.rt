@@ -15,23 +15,23 @@ mod read;
 mod table;
 
 fn main() {
-    let mut cases = [0u8; 262144];
+    let mut list = [0u8; 131072];
     let fd = os::open_read(b"cases.txt");
-    let length = io::read_full(fd, &mut cases);
+    let length = io::read_full(fd, &mut list);
     let mut buffer = io::buffer();
-    let used = put_cases(&mut buffer, &cases[..length]);
+    let used = put_cases(&mut buffer, &list[..length]);
     text_out::flush(&buffer, used);
 }
 
 // A line of the list is a case's name, a space, and what the case is.
-fn put_cases(buffer: &mut Buffer, cases: &[u8]) -> usize {
+fn put_cases(buffer: &mut Buffer, list: &[u8]) -> usize {
     let mut used = 0;
     let mut at = 0;
-    while at < cases.len() {
-        let end = data::find(cases, at, b' ');
-        used = put_case(buffer, used, &cases[at..end]);
-        at = data::find(cases, end, b'\n');
-        if at < cases.len() {
+    while at < list.len() {
+        let end = data::find(list, at, b' ');
+        used = put_case(buffer, used, &list[at..end]);
+        at = data::find(list, end, b'\n');
+        if at < list.len() {
             at += 1;
         }
     }
@@ -51,10 +51,14 @@ fn put_case(buffer: &mut Buffer, used: usize, name: &[u8]) -> usize {
 
 // The room holds two counts, any table that the reader fills, and a label.
 fn put_file(buffer: &mut Buffer, used: usize, name: &[u8], fd: i32) -> usize {
-    let mut file = [0u8; 416000];
-    let length = io::read_full(fd, &mut file);
+    let mut room = [0u8; 416000];
+    put_read(buffer, used, name, fd, &mut room)
+}
+
+fn put_read(buffer: &mut Buffer, used: usize, name: &[u8], fd: i32, room: &mut [u8]) -> usize {
+    let length = io::read_full(fd, room);
     let call = data::find(name, 0, b'/');
-    put_call(buffer, used, &name[0..call], &file[..length])
+    put_call(buffer, used, &name[0..call], &room[0..length])
 }
 
 // The calls that take bytes; all others take a table.

@@ -41,9 +41,9 @@ pub fn put_next(buffer: &mut Buffer, used: usize, number: u32) -> usize {
 // Writes out what is in the buffer.
 pub fn flush(buffer: &Buffer, used: usize) {
     let whole: &[u8] = buffer;
-    if used < 4096 {
-        io::write_all(STDOUT_FILENO, &whole[0..used]);
+    if used >= 4096 {
+        io::write_all(STDOUT_FILENO, whole);
         return;
     }
-    io::write_all(STDOUT_FILENO, whole);
+    io::write_all(STDOUT_FILENO, &whole[0..used]);
 }
