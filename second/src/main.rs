@@ -82,14 +82,8 @@ fn make_cases(folder: &str, seed: u64) -> Result<ExitCode, String> {
     make::write(Path::new(folder), &all).map_err(|error| format!("{folder}: {error}"))?;
     for (call, cases) in &all {
         let bytes: usize = cases.iter().map(|case| case.data.len()).sum();
-        let numbers = make::first_numbers(cases);
-        let numbers: Vec<String> =
-            numbers.iter().map(|(number, count)| format!("{number}: {count}")).collect();
-        println!(
-            "{call}: {} cases, {bytes} bytes; how often each number is first: {}",
-            cases.len(),
-            numbers.join(", ")
-        );
+        let (count, numbers) = (cases.len(), make::first_numbers(cases));
+        println!("{call}: {count} cases, {bytes} bytes; how often each number is first: {numbers:?}");
     }
     Ok(ExitCode::SUCCESS)
 }

@@ -73,3 +73,11 @@ fn a_seed_gives_the_same_cases_again() {
         }
     }
 }
+
+#[test]
+fn a_case_is_a_line_of_the_list() {
+    for (call, make) in CALLS {
+        assert!(!call.contains([' ', '/', '\n']), "{call}");
+        assert!(make(1).iter().all(|case| !case.name.contains('\n')), "{call}");
+    }
+}
