@@ -74,7 +74,7 @@ fn put_call(buffer: &mut Buffer, used: usize, call: &[u8], file: &[u8]) -> usize
 // The words of a table's file are the numbers of contents words and bodies words, the contents, the bodies, and what else the call takes.
 fn put_table(buffer: &mut Buffer, used: usize, call: &[u8], words: &[u32]) -> usize {
     if words.len() < 2 {
-        return used;
+        return put_all(buffer, used, b" has no table");
     }
     let bodies = data::end_of_run(2, words[0], words.len());
     let rest = data::end_of_run(bodies, words[1], words.len());
