@@ -7,8 +7,7 @@ mod compare;
 #[cfg(feature = "linked")]
 mod library;
 
-use second::make::{self, Case};
-use second::{examples, lister, read, table};
+use second::{examples, lister, make, read, table};
 use std::fs;
 use std::path::Path;
 use std::process::ExitCode;
@@ -17,9 +16,7 @@ const USAGE: &str = "\
 second read FILE                         the answer, and the lister's lines of an accepted file
 second plan FILE [LABEL]                 what the programs in examples/ print
 second make-examples DIR                 their plans
-second make-read DIR [SEED]              cases of the read call
-second make-table DIR [SEED]             cases of the check and write calls
-second make-list DIR [SEED]              cases of the list call and the questions
+second make-cases DIR [SEED]             cases of all calls
 second compare [--seconds N] [--seed S] [--out DIR] [--trace FILE]
                                          compares the linked library (built with --features linked)
 second bench                             measures the linked library beside this program
@@ -33,9 +30,8 @@ fn main() -> ExitCode {
         ["plan", file] => plan(file, None),
         ["plan", file, label] => plan(file, Some(label)),
         ["make-examples", folder] => make_examples(Path::new(folder)),
-        ["make-read", folder, ref seed @ ..] => make_cases(folder, seed, make::reads::cases),
-        ["make-table", folder, ref seed @ ..] => make_cases(folder, seed, make::tables::cases),
-        ["make-list", folder, ref seed @ ..] => make_cases(folder, seed, make::lists::cases),
+        ["make-cases", folder] => make_cases(folder, 1),
+        ["make-cases", folder, seed] => number(seed).and_then(|seed| make_cases(folder, seed)),
         ["compare", ref options @ ..] => compare(options),
         ["bench"] => bench(),
         ["bench-calls", plans, call, who, times] => bench_calls(plans, call, who, times),
@@ -81,18 +77,13 @@ fn make_examples(folder: &Path) -> Result<ExitCode, String> {
     Ok(ExitCode::SUCCESS)
 }
 
-fn make_cases(folder: &str, seed: &[&str], cases: fn(u64) -> Vec<Case>) -> Result<ExitCode, String> {
-    let seed = match seed {
-        [] => 1,
-        [seed] => number(seed)?,
-        _ => return Err(USAGE.to_string()),
-    };
-    let cases = cases(seed);
-    make::write(Path::new(folder), &cases).map_err(|error| format!("{folder}: {error}"))?;
-    let bytes: usize = cases.iter().map(|case| case.data.len()).sum();
-    println!("{} cases, {bytes} bytes; first number and how often:", cases.len());
-    for (number, count) in make::first_numbers(&cases) {
-        println!("  {number}: {count}");
+fn make_cases(folder: &str, seed: u64) -> Result<ExitCode, String> {
+    let all = make::CALLS.map(|(call, cases)| (call, cases(seed)));
+    make::write(Path::new(folder), &all).map_err(|error| format!("{folder}: {error}"))?;
+    for (call, cases) in &all {
+        let bytes: usize = cases.iter().map(|case| case.data.len()).sum();
+        let (count, numbers) = (cases.len(), make::first_numbers(cases));
+        println!("{call}: {count} cases, {bytes} bytes; how often each number is first: {numbers:?}");
     }
     Ok(ExitCode::SUCCESS)
 }

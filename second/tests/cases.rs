@@ -1,6 +1,6 @@
-//! The folders of cases: what each holds, and that a seed always gives the same.
+//! The cases of each call: what they hold, and that a seed always gives the same.
 
-use second::make::{first_numbers, lists, reads, tables, Case};
+use second::make::{first_numbers, lists, reads, tables, Case, CALLS};
 
 fn bytes(cases: &[Case]) -> usize {
     cases.iter().map(|case| case.data.len()).sum()
@@ -16,11 +16,8 @@ fn every_number_of_the_reader_occurs_at_several_places() {
     for seed in [1, 2, 77] {
         let cases = reads::cases(seed);
         let numbers = first_numbers(&cases);
-        assert_eq!(
-            numbers.iter().map(|(number, _)| *number).collect::<Vec<_>>(),
-            (0..=13).collect::<Vec<_>>()
-        );
-        assert!(numbers.iter().all(|(_, count)| *count >= 3), "{numbers:?}");
+        assert!(numbers.keys().copied().eq(0..=13), "{numbers:?}");
+        assert!(numbers.values().all(|count| *count >= 3), "{numbers:?}");
         assert!(cases.len() <= 1_000 && bytes(&cases) < 3_000_000);
     }
 }
@@ -60,19 +57,27 @@ fn accepted_files_have_four_groups_and_refused_ones_one() {
 fn tables_and_lists_hold_good_and_bad_ones() {
     for cases in [tables::cases(1), lists::cases(1)] {
         let numbers = first_numbers(&cases);
-        assert_eq!(numbers.iter().map(|(number, _)| *number).collect::<Vec<_>>(), [0, 16]);
-        assert!(numbers.iter().all(|(_, count)| *count >= 20), "{numbers:?}");
+        assert!(numbers.keys().copied().eq([0, 16]), "{numbers:?}");
+        assert!(numbers.values().all(|count| *count >= 20), "{numbers:?}");
         assert!(cases.len() <= 150 && bytes(&cases) < 1_500_000);
     }
 }
 
 #[test]
 fn a_seed_gives_the_same_cases_again() {
-    for make in [reads::cases, tables::cases, lists::cases] {
+    for (_, make) in CALLS {
         let (one, two) = (make(9), make(9));
         assert_eq!(one.len(), two.len());
         for (one, two) in one.iter().zip(&two) {
             assert!(one.data == two.data && one.groups == two.groups && one.name == two.name);
         }
+    }
+}
+
+#[test]
+fn a_case_is_a_line_of_the_list() {
+    for (call, make) in CALLS {
+        assert!(!call.contains([' ', '/', '\n']), "{call}");
+        assert!(make(1).iter().all(|case| !case.name.contains('\n')), "{call}");
     }
 }

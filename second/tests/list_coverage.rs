@@ -1,4 +1,4 @@
-//! What the cases of make-list hold between them: labels of every kind, depths, and every paint and text of every version.
+//! What the list cases hold between them: labels of every kind, depths, and every paint and text of every version.
 
 use second::answer::{Color, PaintAnswer, TextAnswer};
 use second::ask;
@@ -16,14 +16,13 @@ struct Asked {
     rows: u32,
 }
 
-/// The runs of a data file: three counts, and the contents, bodies and label that they count.
+/// The runs of a data file: two counts, the contents and bodies that they count, and the label.
 fn asked(case: &Case) -> Option<Asked> {
     let word = |bytes: &[u8]| u32::from_be_bytes(bytes.try_into().unwrap());
     let words: Vec<u32> = case.data.chunks_exact(4).map(word).collect();
-    let (counts, runs) = words.split_at(3);
+    let (counts, runs) = words.split_at(2);
     let (contents, rest) = runs.split_at(counts[0] as usize);
     let (bodies, label) = rest.split_at(counts[1] as usize);
-    assert_eq!(label.len(), counts[2] as usize);
     let good = check::good(contents, bodies)?;
     let label = label.iter().map(|char| u16::try_from(*char).unwrap()).collect();
     let rows = case.groups.iter().filter(|group| group.contains(": ")).count() as u32;

@@ -1,3 +1,3 @@
--- That the answers of the calls stay within what was lent.
+-- That what `read` answers stays within what was lent.
 pub mod Within
 pub mod WithinLaws

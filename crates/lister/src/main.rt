@@ -1,6 +1,5 @@
 // The lister: reads a drawing of at most 8,192 bytes on standard input and prints its table, or the refusal.
 ghost use Prim.Native.Nat.{_+_, _*_, _≤_};
-ghost use Rattle.text_out.specs.Buffer.{InBuffer};
 use libc::STDIN_FILENO;
 use text_out::Buffer;
 use text_out::put;
@@ -16,9 +15,7 @@ fn main() {
     text_out::flush(&buffer, used);
 }
 
-fn put_listing(buffer: &mut Buffer, file: &[u8]) -> usize
-    ensures { λ r. ⌜ InBuffer r ⌝ }
-{
+fn put_listing(buffer: &mut Buffer, file: &[u8]) -> usize {
     if file.len() > 8192 {
         return put_refusal(buffer, 1, 8192);
     }
@@ -32,18 +29,14 @@ fn put_listing(buffer: &mut Buffer, file: &[u8]) -> usize
     put_rows(buffer, used, &contents, answer.rows)
 }
 
-fn put_refusal(buffer: &mut Buffer, number: u32, offset: u32) -> usize
-    ensures { λ r. ⌜ InBuffer r ⌝ }
-{
+fn put_refusal(buffer: &mut Buffer, number: u32, offset: u32) -> usize {
     let used = text_out::put_all(buffer, 0, b"refused");
     let used = put_next(buffer, used, number);
     let used = put_next(buffer, used, offset);
     put(buffer, used, b'\n')
 }
 
-fn put_head(buffer: &mut Buffer, version: u32, rows: u32, words: u32) -> usize
-    ensures { λ r. ⌜ InBuffer r ⌝ }
-{
+fn put_head(buffer: &mut Buffer, version: u32, rows: u32, words: u32) -> usize {
     let used = text_out::put_all(buffer, 0, b"1.");
     let used = put_decimal(buffer, used, version);
     let used = put_next(buffer, used, rows);
@@ -52,9 +45,7 @@ fn put_head(buffer: &mut Buffer, version: u32, rows: u32, words: u32) -> usize
 }
 
 fn put_rows(buffer: &mut Buffer, used: usize, contents: &[u32; 4680], rows: u32) -> usize
-    requires { ⌜ InBuffer used ⌝ }
     requires { ⌜ 4 * rows ≤ 4680 ⌝ }
-    ensures { λ r. ⌜ InBuffer r ⌝ }
 {
     let mut at = used;
     let mut row = 0;
@@ -66,9 +57,7 @@ fn put_rows(buffer: &mut Buffer, used: usize, contents: &[u32; 4680], rows: u32)
 }
 
 fn put_row(buffer: &mut Buffer, used: usize, contents: &[u32; 4680], row: u32) -> usize
-    requires { ⌜ InBuffer used ⌝ }
     requires { ⌜ 4 * (row + 1) ≤ 4680 ⌝ }
-    ensures { λ r. ⌜ InBuffer r ⌝ }
 {
     let start = 4 * row as usize;
     let used = put_decimal(buffer, used, row);

@@ -1,29 +1,22 @@
 // Standard output gathered in a buffer, so that many short pieces are written by few calls. The buffer and how much of it
 // is used are the caller's: each call takes both, and answers how much is used after it.
-ghost use mathlib.Core.Path.{_≡_};
-ghost use Prim.Native.Nat.{_<_};
-ghost use Rattle.text_out.specs.Buffer.{InBuffer};
-use drawing::Answer;
 use libc::STDOUT_FILENO;
-
-pub mod cases;
 
 // As many bytes as `io::buffer` gives.
 pub type Buffer = [u8; 4096];
 
-pub fn put(buffer: &mut Buffer, used: usize, byte: u8) -> usize
-    requires { ⌜ InBuffer used ⌝ }
-    ensures { λ r. ⌜ InBuffer r ⌝ }
-{
-    let at = room(buffer, used);
-    buffer[at] = byte;
-    at + 1
+// A full buffer is written out and begins again.
+pub fn put(buffer: &mut Buffer, used: usize, byte: u8) -> usize {
+    if used < 4096 {
+        buffer[used] = byte;
+        return used + 1;
+    }
+    flush(buffer, used);
+    buffer[0] = byte;
+    1
 }
 
-pub fn put_all(buffer: &mut Buffer, used: usize, bytes: &[u8]) -> usize
-    requires { ⌜ InBuffer used ⌝ }
-    ensures { λ r. ⌜ InBuffer r ⌝ }
-{
+pub fn put_all(buffer: &mut Buffer, used: usize, bytes: &[u8]) -> usize {
     let mut at = used;
     let mut i = 0;
     while i < bytes.len() {
@@ -33,62 +26,24 @@ pub fn put_all(buffer: &mut Buffer, used: usize, bytes: &[u8]) -> usize
     at
 }
 
-pub fn put_decimal(buffer: &mut Buffer, used: usize, number: u32) -> usize
-    requires { ⌜ InBuffer used ⌝ }
-    ensures { λ r. ⌜ InBuffer r ⌝ }
-{
+pub fn put_decimal(buffer: &mut Buffer, used: usize, number: u32) -> usize {
     let mut digits = [0u8; 20];
     let count = io::decimal(number as u64, &mut digits);
     put_all(buffer, used, &digits[..count])
 }
 
 // A space and a number.
-pub fn put_next(buffer: &mut Buffer, used: usize, number: u32) -> usize
-    requires { ⌜ InBuffer used ⌝ }
-    ensures { λ r. ⌜ InBuffer r ⌝ }
-{
+pub fn put_next(buffer: &mut Buffer, used: usize, number: u32) -> usize {
     let used = put(buffer, used, b' ');
     put_decimal(buffer, used, number)
 }
 
-pub fn put_answer(buffer: &mut Buffer, used: usize, answer: Answer) -> usize
-    requires { ⌜ InBuffer used ⌝ }
-    ensures { λ r. ⌜ InBuffer r ⌝ }
-{
-    let used = put_next(buffer, used, answer.number);
-    let used = put_next(buffer, used, answer.offset);
-    let used = put_next(buffer, used, answer.rows);
-    put_next(buffer, used, answer.words)
-}
-
-// A space and eight digits, of a number below 2^32.
-pub fn put_hash(buffer: &mut Buffer, used: usize, number: u64) -> usize
-    requires { ⌜ InBuffer used ⌝ }
-    ensures { λ r. ⌜ InBuffer r ⌝ }
-{
-    let used = put(buffer, used, b' ');
-    let mut digits = [0u8; 16];
-    let count = io::hex(number, 8, &mut digits);
-    put_all(buffer, used, &digits[..count])
-}
-
 // Writes out what is in the buffer.
-pub fn flush(buffer: &Buffer, used: usize) -> usize
-    requires { ⌜ InBuffer used ⌝ }
-    ensures { λ r. ⌜ r ≡ 0 ⌝ }
-{
+pub fn flush(buffer: &Buffer, used: usize) {
     let whole: &[u8] = buffer;
-    io::write_all(STDOUT_FILENO, &whole[..used]);
-    0
-}
-
-// The place of the next byte: a full buffer is written out and begins again.
-fn room(buffer: &Buffer, used: usize) -> usize
-    requires { ⌜ InBuffer used ⌝ }
-    ensures { λ r. ⌜ r < 4096 ⌝ }
-{
-    if used < 4096 {
-        return used;
+    if used >= 4096 {
+        io::write_all(STDOUT_FILENO, whole);
+        return;
     }
-    flush(buffer, used)
+    io::write_all(STDOUT_FILENO, &whole[0..used]);
 }

@@ -5,6 +5,7 @@ use super::runs::Run;
 use crate::library;
 use second::answer::Answer;
 use second::check::{self, Good};
+use second::make::table_data;
 use second::random::Random;
 use second::table::{self, Table};
 use second::{ask, list, write};
@@ -82,7 +83,7 @@ impl Comparer {
         let ours = check::call(asked.good.as_ref());
         let theirs = library::check(asked.contents.given(), asked.bodies.given());
         let memory = asked.changed();
-        let data = || table_data(&asked.table);
+        let data = || table_data(&asked.table, []);
         self.report.compared(Call::Check, &words(ours), &words(theirs), memory, String::new, data);
     }
 
@@ -96,7 +97,7 @@ impl Comparer {
         let mut memory = asked.changed();
         memory.push(("output", output.first_difference(&our_output)));
         let detail = || format!("room of {room} bytes");
-        let data = || table_data(&asked.table);
+        let data = || table_data(&asked.table, []);
         self.report.compared(Call::Write, &words(ours), &words(theirs), memory, detail, data);
         ours
     }
@@ -117,7 +118,7 @@ impl Comparer {
         memory.push(("label", given.first_difference(&given_before)));
         memory.push(("entries", entries.first_difference(&our_entries)));
         let detail = || format!("room of {room} entries, label {label:04x?}");
-        let data = || list_data(&asked.table, label);
+        let data = || table_data(&asked.table, label.iter().copied().map(u32::from));
         self.report.compared(Call::List, &words(ours), &words(theirs), memory, detail, data);
         ours
     }
@@ -129,7 +130,7 @@ impl Comparer {
         };
         let memory = asked.changed();
         let detail = || format!("row {row}, which {which}");
-        let data = || table_data(&asked.table);
+        let data = || table_data(&asked.table, []);
         self.report.compared(Call::Paint, &ours.words(), &theirs.words(), memory, detail, data);
     }
 
@@ -140,22 +141,7 @@ impl Comparer {
         };
         let memory = asked.changed();
         let detail = || format!("row {row}");
-        let data = || table_data(&asked.table);
+        let data = || table_data(&asked.table, []);
         self.report.compared(Call::Text, &ours.words(), &theirs.words(), memory, detail, data);
     }
-}
-
-/// A table as `make-table` writes it.
-fn table_data(table: &Table) -> Vec<u8> {
-    let length = table.contents.len() as u32;
-    let words = [length].into_iter().chain(table.contents.iter().chain(&table.bodies).copied());
-    words.flat_map(u32::to_be_bytes).collect()
-}
-
-/// A table and a label as `make-list` writes them.
-fn list_data(table: &Table, label: &[u16]) -> Vec<u8> {
-    let lengths = [table.contents.len(), table.bodies.len(), label.len()].map(|length| length as u32);
-    let runs = table.contents.iter().chain(&table.bodies).copied();
-    let words = lengths.into_iter().chain(runs).chain(label.iter().copied().map(u32::from));
-    words.flat_map(u32::to_be_bytes).collect()
 }

@@ -1,6 +1,6 @@
 //! Cases of the list call, the paint question and the text question.
 
-use super::{hash, words_to_bytes, Case, FILL};
+use super::{hash, table_data, Case, FILL};
 use crate::answer::Answer;
 use crate::ask;
 use crate::check::{self, Good};
@@ -34,10 +34,8 @@ pub fn cases(seed: u64) -> Vec<Case> {
 
 fn case(asked: Asked) -> Case {
     let Asked { name, table, label } = asked;
-    let lengths = [table.contents.len(), table.bodies.len(), label.len()].map(|length| length as u32);
-    let runs = table.contents.iter().chain(&table.bodies).copied();
-    let words = lengths.into_iter().chain(runs).chain(label.iter().copied().map(u32::from));
-    Case { name, data: words_to_bytes(words), groups: groups(&table, &label) }
+    let data = table_data(&table, label.iter().copied().map(u32::from));
+    Case { name, data, groups: groups(&table, &label) }
 }
 
 /// The line's groups: the list with three rooms, then the questions row by row.

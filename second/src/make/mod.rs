@@ -1,13 +1,22 @@
-//! Folders of cases with the lines that a program under test has to print for them.
+//! The cases of the calls, and the lines that a program under test has to print for them.
 
 mod broken;
 pub mod lists;
 pub mod reads;
 pub mod tables;
 
+use crate::table::Table;
+use std::collections::BTreeMap;
 use std::fs;
 use std::io;
 use std::path::Path;
+
+/// What makes the cases of a call, from a seed.
+type Make = fn(u64) -> Vec<Case>;
+
+/// Each call by the name that its cases have, in the order in which they are run.
+pub const CALLS: [(&str, Make); 3] =
+    [("read", reads::cases), ("table", tables::cases), ("list", lists::cases)];
 
 /// What lent memory holds before a call.
 pub const FILL: u32 = 0xA5A5_A5A5;
@@ -26,31 +35,41 @@ pub fn hash(words: impl IntoIterator<Item = u32>) -> u32 {
     words.into_iter().fold(2_166_136_261, step)
 }
 
-/// Big-endian words one after the other.
-fn words_to_bytes(words: impl IntoIterator<Item = u32>) -> Vec<u8> {
-    words.into_iter().flat_map(u32::to_be_bytes).collect()
+/// The data file of a call that takes a table: the numbers of contents words and bodies words, both runs, and what else the call takes.
+pub fn table_data(table: &Table, rest: impl IntoIterator<Item = u32>) -> Vec<u8> {
+    let lengths = [&table.contents, &table.bodies].map(|run| run.len() as u32);
+    let runs = table.contents.iter().chain(&table.bodies).copied();
+    lengths.into_iter().chain(runs).chain(rest).flat_map(u32::to_be_bytes).collect()
 }
 
-/// Writes DIR/data/0000 and so on, DIR/stdout and DIR/cases.txt.
-pub fn write(folder: &Path, cases: &[Case]) -> io::Result<()> {
+/// Writes for each call its data files, DIR/data/CALL/0000 and so on; then DIR/data/cases.txt, which names all cases, and DIR/stdout.
+pub fn write(folder: &Path, all: &[(&str, Vec<Case>)]) -> io::Result<()> {
     let data = folder.join("data");
-    fs::create_dir_all(&data)?;
     let mut lines = String::new();
     let mut names = String::new();
-    for (place, case) in cases.iter().enumerate() {
-        fs::write(data.join(format!("{place:04}")), &case.data)?;
-        lines += &format!("{place:04}: {}\n", case.groups.join(" ; "));
-        names += &format!("{place:04} {}\n", case.name);
+    for (call, cases) in all {
+        fs::create_dir_all(data.join(call))?;
+        for (place, case) in cases.iter().enumerate() {
+            let name = name_of(call, place);
+            fs::write(data.join(&name), &case.data)?;
+            names += &format!("{name} {}\n", case.name);
+            lines += &format!("{name} ; {}\n", case.groups.join(" ; "));
+        }
+        remove_later(&data, call, cases.len())?;
     }
-    remove_later(&data, cases.len())?;
-    fs::write(folder.join("stdout"), lines)?;
-    fs::write(folder.join("cases.txt"), names)
+    fs::write(data.join("cases.txt"), names)?;
+    fs::write(folder.join("stdout"), lines)
+}
+
+/// A case's name, which is that of its data file: the call, and the place among the call's cases.
+fn name_of(call: &str, place: usize) -> String {
+    format!("{call}/{place:04}")
 }
 
 /// Removes what an earlier run with more cases has left behind.
-fn remove_later(data: &Path, count: usize) -> io::Result<()> {
+fn remove_later(data: &Path, call: &str, count: usize) -> io::Result<()> {
     for place in count..10_000 {
-        let old = data.join(format!("{place:04}"));
+        let old = data.join(name_of(call, place));
         if !old.exists() {
             break;
         }
@@ -60,9 +79,12 @@ fn remove_later(data: &Path, count: usize) -> io::Result<()> {
 }
 
 /// How often each number stands first in a case's line, for the totals that are printed.
-pub fn first_numbers(cases: &[Case]) -> Vec<(u32, usize)> {
-    let number = |case: &Case| case.groups[0].split(' ').next().and_then(|word| word.parse().ok());
-    let numbers: Vec<u32> = cases.iter().filter_map(number).collect();
-    let count = |wanted: u32| numbers.iter().filter(|number| **number == wanted).count();
-    (0..=18).map(|wanted| (wanted, count(wanted))).filter(|(_, count)| *count > 0).collect()
+pub fn first_numbers(cases: &[Case]) -> BTreeMap<u32, usize> {
+    let mut numbers = BTreeMap::new();
+    for case in cases {
+        if let Some(number) = case.groups[0].split(' ').next().and_then(|word| word.parse().ok()) {
+            *numbers.entry(number).or_default() += 1;
+        }
+    }
+    numbers
 }

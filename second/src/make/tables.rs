@@ -1,6 +1,6 @@
 //! Cases of the check and write calls.
 
-use super::{hash, words_to_bytes, Case, FILL_BYTE};
+use super::{hash, table_data, Case, FILL_BYTE};
 use crate::answer::Answer;
 use crate::check::{self, Good};
 use crate::damage::faults::faults;
@@ -37,9 +37,7 @@ pub fn cases(seed: u64) -> Vec<Case> {
 }
 
 fn case((name, table): (String, Table)) -> Case {
-    let mut words = vec![table.contents.len() as u32];
-    words.extend(table.contents.iter().chain(&table.bodies));
-    Case { name, data: words_to_bytes(words), groups: groups(&table) }
+    Case { name, data: table_data(&table, []), groups: groups(&table) }
 }
 
 /// The line's groups: the check; the writer with a large room, then an exact one, then one short.

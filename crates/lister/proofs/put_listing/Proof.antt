@@ -9,7 +9,7 @@ put-rows-requires c κs =
     let tested = c .before .before .before .before in
     let called = tested .before .before .before .before in
     let known = called .before .before .before .before .shared-slice-known .given in
-    (search needs, read-within known (called .read .ensures) (tested .if2 .left) .rows-fit)
+    read-within known (called .read .ensures) (tested .if2 .left) .rows-fit
 
 pub put-listing-spec : {M : Type 1} → statement M
 put-listing-spec = tie.close (tie.spec (λ c κs. search needs) (λ c. search needs) (λ c. search needs) (λ c. search needs) (λ c κs. search needs) (λ c κs. search needs) (λ c. search needs) (λ c. search needs) (λ c κs. search needs) put-rows-requires (λ c. search needs))

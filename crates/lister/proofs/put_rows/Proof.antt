@@ -1,12 +1,11 @@
 -- `lister::put_rows` prints rows that the contents have, and ends.
 use Prim.Native.Nat.{_≤_, _-_}
 use borrow.Author.Needs.{needs}
-use Rattle.text_out.specs.Buffer.{InBuffer}
 use Rattle.lister.proofs.put_rows.Statement.{statement}
 use Rattle.lister.proofs.put_rows.Tie as tie
 
 abbrev Inv-loop : tie.InvT-loop
-Inv-loop buffer₀ used contents rows at₀ row₀ buffer at row = (row ≤ rows) × InBuffer at
+Inv-loop buffer₀ used contents rows at₀ row₀ buffer at row = row ≤ rows
 
 abbrev μ-loop : tie.MeasureT-loop
 μ-loop buffer₀ used contents rows at₀ row₀ buffer at row = rows - row

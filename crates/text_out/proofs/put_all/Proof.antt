@@ -1,13 +1,12 @@
--- `text_out::put_all` stays in the buffer, and ends.
+-- `text_out::put_all` stays in the bytes, and ends.
 use Prim.Native.Nat.{_≤_, _-_}
 use lib.ListN.{length}
 use borrow.Author.Needs.{needs}
-use Rattle.text_out.specs.Buffer.{InBuffer}
 use Rattle.text_out.proofs.put_all.Statement.{statement}
 use Rattle.text_out.proofs.put_all.Tie as tie
 
 abbrev Inv-loop : tie.InvT-loop
-Inv-loop buffer₀ used bytes at₀ i₀ buffer at i = (i ≤ length bytes) × InBuffer at
+Inv-loop buffer₀ used bytes at₀ i₀ buffer at i = i ≤ length bytes
 
 abbrev μ-loop : tie.MeasureT-loop
 μ-loop buffer₀ used bytes at₀ i₀ buffer at i = length bytes - i

@@ -1,9 +1,0 @@
--- `text_out::flush` writes a part of the buffer that is as long as was asked.
-use mathlib.Core.Path.{sym}
-use lib.Seq.{length-take-le}
-use borrow.Author.Needs.{needs}
-use Rattle.text_out.proofs.flush.Statement.{statement}
-use Rattle.text_out.proofs.flush.Tie as tie
-
-pub flush-spec : {M : Type 1} → statement M
-flush-spec = tie.close (tie.spec (λ c. sym (length-take-le _ _ (search needs))) (λ c κs. search needs) (λ c. search needs))

@@ -1,2 +1,0 @@
--- The output buffer.
-pub mod Buffer
