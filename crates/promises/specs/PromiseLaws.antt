@@ -2,7 +2,7 @@
 use mathlib.Core.Path.{_≡_, refl, sym, ap, ap₂, subst, _∙_}
 use mathlib.Core.Logic.{_⊎_, _↔_, inl, inr}
 use mathlib.Core.Option.{Option, none, some}
-use Prim.Native.Nat.{ℕ, _^_, _≤_}
+use Prim.Native.Nat.{ℕ, _^_}
 use native.Mathlib.Omega.{arith}
 use mathlib.Core.List.{List, [], List·Memᴰ}
 use lib.ListN.{length, take, getD, getElem?}
@@ -37,7 +37,7 @@ use Rattle.laws.specs.OrderLaws.{leads}
 use Rattle.laws.specs.RowBodies.{RowBody}
 use Rattle.laws.specs.RowBodyLaws.{row-object, object-row, object-body}
 use Rattle.laws.specs.TextPlaceLaws.{text-chars, alternative-of}
-use Rattle.promises.specs.Promises.{readTo, Reads, OfTable, outputTo, Checks, Writes, Listed, Lists, Paints, Texts}
+use Rattle.promises.specs.Promises.{readTo, Reads, ByTable, OfTable, by-table, Demanded, demand3, outputTo, Checks, Writes, Listed, Lists, Paints, Texts}
 
 -- ---- read
 
@@ -59,8 +59,8 @@ reads {file} {contents} {bodies} below is =
 
 -- ---- calls that take a table
 
-pub of-table : {R : Type 0} {contents bodies : List ℕ} (of : Drawing → R) (bad : R) {result : R} → Below (2 ^ 32) bodies → result ≡ fromTable of bad (drawingOfTable contents bodies) → OfTable contents bodies of bad result
-of-table {R} {contents} {bodies} of bad below is =
+told-by-table : {R : Type 0} {contents bodies : List ℕ} (of : Drawing → R) (bad : R) {result : R} → Below (2 ^ 32) bodies → result ≡ fromTable of bad (drawingOfTable contents bodies) → ByTable contents bodies of bad result
+told-by-table {R} {contents} {bodies} of bad below is =
     record {
       table = λ d t. is ∙ ap (fromTable of bad) (drawing-of-table contents bodies below d .1 t);
       no-table = λ none-has. is ∙ ap (fromTable of bad) (no-drawing contents bodies below .1 none-has);
@@ -70,6 +70,12 @@ of-table {R} {contents} {bodies} of bad below is =
     by : (o : Option Drawing) → drawingOfTable contents bodies ≡ o → ((d : Drawing) × IsTable contents bodies d) ⊎ ((d : Drawing) → IsTable contents bodies d → ⊥)
     by none e = inr (no-drawing contents bodies below .0 e)
     by (some d) e = inl (d, drawing-of-table contents bodies below d .0 e)
+
+pub opened : {R : Type 0} {contents bodies : List ℕ} {of : Drawing → R} {bad result : R} → OfTable contents bodies of bad result → ByTable contents bodies of bad result
+opened (by-table says) = says
+
+pub of-table : {R : Type 0} {contents bodies : List ℕ} (of : Drawing → R) (bad : R) {result : R} → Below (2 ^ 32) bodies → result ≡ fromTable of bad (drawingOfTable contents bodies) → OfTable contents bodies of bad result
+of-table of bad below is = by-table (told-by-table of bad below is)
 
 pub checks : {contents bodies : List ℕ} {r : Answer} → Below (2 ^ 32) bodies → r ≡ checkAnswer contents bodies → Checks contents bodies r
 checks below is = record { decides = of-table tableChecked noTable below is; says = is }
@@ -97,20 +103,20 @@ entries-listed c bs label d table =
       leads = λ row member. subst (λ l. ParentChain l row (getD (groupsAround d) row [])) (sym (table .contents-are)) (leads d row (entries-are label d row .0 member .0));
     }
 
-pub lists : {contents bodies : List ℕ} {label : String} {list list′ : List ℕ} {r : Answer} → Below (2 ^ 32) bodies → outputTo r list′ ≡ listOutput contents bodies label list → Lists contents bodies label list r list′
-lists {contents} {bodies} {label} {list} {list′} {r} below is = record { decides = decides; demanded = demanded; says = is }
-  where
-    decides : OfTable contents bodies (tableListed label list) (nothingStored list) (outputTo r list′)
-    decides = of-table (tableListed label list) (nothingStored list) below is
+demanded : (contents bodies : List ℕ) (label : String) (list : List ℕ) {list′ : List ℕ} {r : Answer} → ByTable contents bodies (tableListed label list) (nothingStored list) (outputTo r list′) → Demanded contents bodies label list r list′
+demanded contents bodies label list {list′} {r} decides =
+    demand3 (λ d table room.
+    let E = entries label d in
+    let output = decides .table d table ∙ ap (λ t. listed (unless t 18) E list) (le-leb (length E) (length list) room) in
+    let rows-are : r .rows ≡ length E = ap (λ (o : Output). o .answer .rows) output in
+    let list-is : list′ ≡ overwrite E list = ap (λ (o : Output). o .buffer) output in
+    let taken : take (r .rows) list′ ≡ E = ap₂ take rows-are list-is ∙ take-overwrite E list (length E) refl in
+    (ap (λ (o : Output). o .answer .number) output, omega (arith, rows-are, room), subst (Listed contents label d) (sym taken) (entries-listed contents bodies label d table)))
 
-    demanded : (d : Drawing) → IsTable contents bodies d → length (entries label d) ≤ length list → (r .number ≡ 0) × (r .rows ≤ length list) × Listed contents label d (take (r .rows) list′)
-    demanded d table room =
-        let E = entries label d in
-        let output = decides .table d table ∙ ap (λ t. listed (unless t 18) E list) (le-leb (length E) (length list) room) in
-        let rows-are : r .rows ≡ length E = ap (λ (o : Output). o .answer .rows) output in
-        let list-is : list′ ≡ overwrite E list = ap (λ (o : Output). o .buffer) output in
-        let taken : take (r .rows) list′ ≡ E = ap₂ take rows-are list-is ∙ take-overwrite E list (length E) refl in
-        (ap (λ (o : Output). o .answer .number) output, omega (arith, rows-are, room), subst (Listed contents label d) (sym taken) (entries-listed contents bodies label d table))
+pub lists : {contents bodies : List ℕ} {label : String} {list list′ : List ℕ} {r : Answer} → Below (2 ^ 32) bodies → outputTo r list′ ≡ listOutput contents bodies label list → Lists contents bodies label list r list′
+lists {contents} {bodies} {label} {list} below is =
+    let decides = told-by-table (tableListed label list) (nothingStored list) below is in
+    record { decides = by-table decides; demands = demanded contents bodies label list decides; says = is }
 
 -- ---- questions
 
@@ -123,15 +129,15 @@ given-paint (Q.part (P.radial start end l)) = refl
 
 pub paints : {contents bodies : List ℕ} {row : ℕ} {which : Which} {r : PaintAnswer} → Below (2 ^ 32) bodies → r ≡ paintAnswer contents bodies row which → Paints contents bodies row which r
 paints {contents} {bodies} {row} {which} below is =
-    let decides = of-table (Q.paintAsked which row) (Paint.Refused 16) below is in
+    let decides = told-by-table (Q.paintAsked which row) (Paint.Refused 16) below is in
     record {
-      decides = decides;
+      decides = by-table decides;
       gives =
-          record {
+          by-table (record {
             table = λ d t. ap Q.paintGiven (decides .table d t) ∙ given-paint (Q.partOf (Q.paintPart which) row d);
             no-table = λ none-has. ap Q.paintGiven (decides .no-table none-has);
             one-or-other = decides .one-or-other;
-          };
+          });
       says = is;
     }
 
@@ -156,17 +162,17 @@ module _ (c bs : List ℕ) (row v : ℕ) (t : Text) where
 
 pub texts : {contents bodies : List ℕ} {row : ℕ} {r : TextAnswer} → Below (2 ^ 32) bodies → r ≡ textAnswer contents bodies row → Texts contents bodies row r
 texts {contents} {bodies} {row} {r} below is =
-    let computed = of-table (textIn contents row) (textValue (Q.noText 16)) below is in
+    let computed = told-by-table (textIn contents row) (textValue (Q.noText 16)) below is in
     record {
       decides =
-          record {
+          by-table (record {
             table = λ d t.
                 ap Q.textGiven (computed .table d t)
                 ∙ given-text (startIn contents row) (d .version) (Q.partOf (Q.leafPart textOf) row d)
                 ∙ ap (λ c. Q.textPlaces (startIn c row) (d .version) (Q.partOf (Q.leafPart textOf) row d)) (t .contents-are);
             no-table = λ none-has. ap Q.textGiven (computed .no-table none-has);
             one-or-other = computed .one-or-other;
-          };
+          });
       places = λ d o t table object-is has.
           let answer-is : r ≡ textValue (Q.textPlaces (startIn contents row) (d .version) (Q.part t)) =
           computed .table d table

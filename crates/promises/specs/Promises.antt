@@ -45,11 +45,15 @@ pub record Reads (file contents bodies : List ℕ) (r : Answer) (contents′ bod
 -- ---- calls that take a table
 
 -- What such a call comes to: `of d` where d has the table, `bad` where no drawing has it.
-pub record OfTable {R : Type 0} (contents bodies : List ℕ) (of : Drawing → R) (bad : R) (result : R) : Type 0 where
+pub record ByTable {R : Type 0} (contents bodies : List ℕ) (of : Drawing → R) (bad : R) (result : R) : Type 0 where
   pub table : (d : Drawing) → IsTable contents bodies d → result ≡ of d
   pub no-table : ((d : Drawing) → IsTable contents bodies d → ⊥) → result ≡ bad
   -- every two runs are one or the other
   pub one-or-other : ((d : Drawing) × IsTable contents bodies d) ⊎ ((d : Drawing) → IsTable contents bodies d → ⊥)
+
+-- The same as a type of its own, which a search for a proof does not look into.
+pub data OfTable {R : Type 0} (contents bodies : List ℕ) (of : Drawing → R) (bad result : R) : Type 0 where
+  by-table : ByTable contents bodies of bad result → OfTable contents bodies of bad result
 
 -- ---- check
 
@@ -78,11 +82,17 @@ pub record Listed (contents : List ℕ) (label : String) (d : Drawing) (listed :
   -- parent numbers lead from an entry through the groups around its object, from the innermost to the outer one
   pub leads : (row : ℕ) → List·Memᴰ row listed → ParentChain contents row (getD (groupsAround d) row [])
 
+-- Demand 3: for every table that demand 2 allows and a list with room enough the number is 0, and what is listed, as many as the row count, are the objects
+-- with that description.
+pub data Demanded (contents bodies : List ℕ) (label : String) (list : List ℕ) (r : Answer) (list′ : List ℕ) : Type 0 where
+  demand3 :
+      ((d : Drawing) → IsTable contents bodies d → length (entries label d) ≤ length list
+      → (r .number ≡ 0) × (r .rows ≤ length list) × Listed contents label d (take (r .rows) list′))
+      → Demanded contents bodies label list r list′
+
 pub record Lists (contents bodies : List ℕ) (label : String) (list : List ℕ) (r : Answer) (list′ : List ℕ) : Type 0 where
   pub decides : OfTable contents bodies (tableListed label list) (nothingStored list) (outputTo r list′)
-  -- demand 3: for every table that demand 2 allows and a list with room enough the number is 0, and what is listed, as many as the row count, are the
-  -- objects with that description
-  pub demanded : (d : Drawing) → IsTable contents bodies d → length (entries label d) ≤ length list → (r .number ≡ 0) × (r .rows ≤ length list) × Listed contents label d (take (r .rows) list′)
+  pub demands : Demanded contents bodies label list r list′
   pub says : outputTo r list′ ≡ listOutput contents bodies label list
 
 -- ---- paint

@@ -15,7 +15,8 @@ use Rattle.drawing.specs.Drawing.{Drawing}
 use Rattle.drawing.specs.Table.{startIn, contentsOf, IsTable}
 use Rattle.drawing.specs.Order.{objectsOf}
 use Rattle.drawing.specs.Questions.{Found, part, refusal, partAt, partOf, orRefusal, leafPart, TextGiven, textPlaces, textAsked, alternativeOf, CharsAt, shown}
-use Rattle.promises.specs.Promises.{Texts}
+use Rattle.promises.specs.Promises.{by-table, Texts}
+use Rattle.promises.specs.PromiseLaws.{opened}
 use Rattle.round_trip.specs.RoundTrip.{charsShown, ShowsText}
 
 -- The chars of one of two runs are those of the one or of the other.
@@ -26,7 +27,7 @@ chars-of charsOf false a p is = ap charsOf is
 module _ {contents bodies : List ℕ} {row : ℕ} {r : TextAnswer} (texts : Texts contents bodies row r) where
   -- The number by the drawing of the table.
   number-is : (d : Drawing) → IsTable contents bodies d → r .number ≡ textAsked row d .answer .number
-  number-is d t = ap (λ (g : TextGiven). g .answer .number) (texts .decides .table d t)
+  number-is d t = ap (λ (g : TextGiven). g .answer .number) (opened (texts .decides) .table d t)
 
   -- ---- a refusal
 
@@ -38,11 +39,11 @@ module _ {contents bodies : List ℕ} {row : ℕ} {r : TextAnswer} (texts : Text
   shows-none gone =
       record {
         decides =
-            record {
+            by-table (record {
               table = λ d t. no-chars (startIn (contentsOf d) row) (d .version) (partOf (leafPart textOf) row d) (λ on. gone (number-is d t ∙ on));
               no-table = λ none-has. refl;
-              one-or-other = texts .decides .one-or-other;
-            };
+              one-or-other = opened (texts .decides) .one-or-other;
+            });
       }
 
   -- ---- a text
@@ -71,11 +72,11 @@ module _ {contents bodies : List ℕ} {row : ℕ} {r : TextAnswer} (texts : Text
       placed = texts .places d (here .object) (here .text) table (here .object-is) (here .text-is)
 
     no-table : {A : Type 0} → ((d : Drawing) → IsTable contents bodies d → ⊥) → A
-    no-table none-has = absurd (omega (arith, sym on ∙ ap (λ (g : TextGiven). g .answer .number) (texts .decides .no-table none-has)))
+    no-table none-has = absurd (omega (arith, sym on ∙ ap (λ (g : TextGiven). g .answer .number) (opened (texts .decides) .no-table none-has)))
 
     -- Both runs lie within the bodies.
     pub runs-inside : (r .alternative .start + r .alternative .length ≤ length bodies) × (r .text .start + r .text .length ≤ length bodies)
-    runs-inside = elim (texts .decides .one-or-other) [ inl t ↦ (placed (t .0) (t .1) .0 .inside, placed (t .0) (t .1) .1 .inside) | inr none-has ↦ no-table none-has ]
+    runs-inside = elim (opened (texts .decides) .one-or-other) [ inl t ↦ (placed (t .0) (t .1) .0 .inside, placed (t .0) (t .1) .1 .inside) | inr none-has ↦ no-table none-has ]
 
     abbrev alternative : List ℕ
     alternative = take (r .alternative .length) (drop (r .alternative .start) bodies)
@@ -87,12 +88,12 @@ module _ {contents bodies : List ℕ} {row : ℕ} {r : TextAnswer} (texts : Text
     shows-chars is =
         record {
           decides =
-              record {
+              by-table (record {
                 table = λ d t.
                     is
                     ∙ ap₂ (λ a p. shown (length a) a p) (placed d t .0 .chars-are) (placed d t .1 .chars-are)
                     ∙ sym (ap (λ x. charsShown (partAt (leafPart textOf) x)) (here d t .object-is) ∙ ap (λ x. charsShown (orRefusal 7 x)) (here d t .text-is));
                 no-table = no-table;
-                one-or-other = texts .decides .one-or-other;
-              };
+                one-or-other = opened (texts .decides) .one-or-other;
+              });
         }

@@ -6,7 +6,8 @@ use Rattle.lister.proofs.put_listing.Tie as tie
 
 put-rows-requires : tie.Need-put-rows-requires
 put-rows-requires c κs =
-    let tested = c .before .before .before .before in
+    let at-before = c .before .before .before in
+    let tested = at-before .before in
     let called = tested .before .before .before .before in
     let known = called .before .before .before .before .shared-slice-known .given in
     read-within known (called .read .ensures) (tested .if2 .left) .rows-fit

@@ -29,7 +29,9 @@ same-length-2 c = search needs
 
 -- src/lib.rt:23:9
 returns : tie.Need-returns
-returns c = file-refused (c .before .before .before .before .before .before .read .ensures) (c .if1 .taken)
+returns c =
+    let at-read = c .before .before .before .before .before .before in
+    file-refused (at-read .read .ensures) (c .if1 .taken)
 
 -- src/lib.rt:28:25
 cast-row-words : tie.Need-cast-row-words
@@ -45,19 +47,39 @@ cast-body-words c = search needs
 
 -- src/lib.rt:30:30
 slice-reshare-prefix-write : tie.Need-slice-reshare-prefix-write
-slice-reshare-prefix-write c = let within = read-within (c .before .before .before .before .before .before .before .before .before .before .before .before .before .before .shared-slice-known .given) (c .before .before .before .before .before .before .before .before .read .ensures) (c .before .before .if1 .left) in omega (arith, within .rows-fit, c .before .before .before .before .before .before .before .contents .given)
+slice-reshare-prefix-write c =
+    let at-if1 = c .before .before in
+    let at-contents = at-if1 .before .before .before .before .before in
+    let at-read = at-contents .before in
+    let at-shared-slice-known = at-read .before .before .before .before .before .before in
+    let within = read-within (at-shared-slice-known .shared-slice-known .given) (at-read .read .ensures) (at-if1 .if1 .left) in omega (arith, within .rows-fit, at-contents .contents .given)
 
 -- src/lib.rt:30:30
 slice-aggregate-write : tie.Need-slice-aggregate-write
-slice-aggregate-write c = let within = read-within (c .before .before .before .before .before .before .before .before .before .before .before .before .before .before .before .shared-slice-known .given) (c .before .before .before .before .before .before .before .before .before .read .ensures) (c .before .before .before .if1 .left) in sym (length-take-le (4 * c .before .before .before .before .before .before .before .before .before .read .result .rows) _ (omega (arith, within .rows-fit, c .before .before .before .before .before .before .before .before .contents .given)))
+slice-aggregate-write c =
+    let at-if1 = c .before .before .before in
+    let at-contents = at-if1 .before .before .before .before .before in
+    let at-read = at-contents .before in
+    let at-shared-slice-known = at-read .before .before .before .before .before .before in
+    let within = read-within (at-shared-slice-known .shared-slice-known .given) (at-read .read .ensures) (at-if1 .if1 .left) in sym (length-take-le (4 * at-read .read .result .rows) _ (omega (arith, within .rows-fit, at-contents .contents .given)))
 
 -- src/lib.rt:30:54
 slice-reshare-prefix-write-2 : tie.Need-slice-reshare-prefix-write-2
-slice-reshare-prefix-write-2 c = let within = read-within (c .before .before .before .before .before .before .before .before .before .before .before .before .before .before .before .shared-slice-known .given) (c .before .before .before .before .before .before .before .before .before .read .ensures) (c .before .before .before .if1 .left) in omega (arith, within .words-fit, c .before .before .before .before .before .before .bodies .given)
+slice-reshare-prefix-write-2 c =
+    let at-if1 = c .before .before .before in
+    let at-bodies = at-if1 .before .before .before in
+    let at-read = at-bodies .before .before .before in
+    let at-shared-slice-known = at-read .before .before .before .before .before .before in
+    let within = read-within (at-shared-slice-known .shared-slice-known .given) (at-read .read .ensures) (at-if1 .if1 .left) in omega (arith, within .words-fit, at-bodies .bodies .given)
 
 -- src/lib.rt:30:54
 slice-aggregate-write-2 : tie.Need-slice-aggregate-write-2
-slice-aggregate-write-2 c = let within = read-within (c .before .before .before .before .before .before .before .before .before .before .before .before .before .before .before .before .shared-slice-known .given) (c .before .before .before .before .before .before .before .before .before .before .read .ensures) (c .before .before .before .before .if1 .left) in sym (length-take-le (c .before .before .before .before .before .before .before .before .before .before .read .result .words) _ (omega (arith, within .words-fit, c .before .before .before .before .before .before .before .bodies .given)))
+slice-aggregate-write-2 c =
+    let at-if1 = c .before .before .before .before in
+    let at-bodies = at-if1 .before .before .before in
+    let at-read = at-bodies .before .before .before in
+    let at-shared-slice-known = at-read .before .before .before .before .before .before in
+    let within = read-within (at-shared-slice-known .shared-slice-known .given) (at-read .read .ensures) (at-if1 .if1 .left) in sym (length-take-le (at-read .read .result .words) _ (omega (arith, within .words-fit, at-bodies .bodies .given)))
 
 -- src/lib.rt:30:9
 write-requires : tie.Need-write-requires
@@ -77,7 +99,13 @@ same-length-5 c = search needs
 
 -- src/lib.rt:13:1
 returns-2 : tie.Need-returns-2
-returns-2 c = file-back (c .before .before .before .before .before .before .before .before .before .before .before .before .before .before .read .ensures) (known-below w8 (c .before .before .before .before .before .before .before .before .before .before .before .before .before .before .before .before .before .before .before .before .before .args .file .now) (c .before .before .before .before .before .before .before .before .before .before .before .before .before .before .before .before .before .before .before .before .shared-slice-known .given)) (c .before .before .before .before .before .before .before .before .if1 .left) (c .before .before .write .ensures)
+returns-2 c =
+    let at-write = c .before .before in
+    let at-if1 = at-write .before .before .before .before .before .before in
+    let at-read = at-if1 .before .before .before .before .before .before in
+    let at-shared-slice-known = at-read .before .before .before .before .before .before in
+    let at-args = at-shared-slice-known .before in
+    file-back (at-read .read .ensures) (known-below w8 (at-args .args .file .now) (at-shared-slice-known .shared-slice-known .given)) (at-if1 .if1 .left) (at-write .write .ensures)
 
 pub read-then-write-spec : {M : Type 1} → statement M
 read-then-write-spec =

@@ -46,11 +46,12 @@ shown-requires c κs = search needs
 -- src/lib.rt:83:1
 returns-2 : tie.Need-returns-2
 returns-2 c =
+    let at-run = c .before .before in
     let at-run2 = c .before in
     let at-run = at-run2 .before in
     let at-if1 = at-run .before .before .before in
     let at-text = at-if1 .before .before in
-    shows-chars (at-text .text .ensures) (at-if1 .if1 .left) (chars-of now (ltb 0 (length (now (c .before .before .run .result)))) (at-run .run .result) (at-run2 .run2 .result) (c .shown .ensures) ∙ ap₂ (λ a p. shown (length a) a p) (at-run .run .ensures) (at-run2 .run2 .ensures))
+    shows-chars (at-text .text .ensures) (at-if1 .if1 .left) (chars-of now (ltb 0 (length (now (at-run .run .result)))) (at-run .run .result) (at-run2 .run2 .result) (c .shown .ensures) ∙ ap₂ (λ a p. shown (length a) a p) (at-run .run .ensures) (at-run2 .run2 .ensures))
 
 pub shown-text-spec : {M : Type 1} → statement M
 shown-text-spec =

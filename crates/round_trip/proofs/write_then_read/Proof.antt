@@ -31,11 +31,21 @@ cast-length c = search needs
 
 -- src/lib.rt:55:26
 slice-reshare-prefix-read : tie.Need-slice-reshare-prefix-read
-slice-reshare-prefix-read c = omega (arith, length-fits (c .before .before .before .before .before .write .ensures) (known-below w32 (c .before .before .before .before .before .before .before .before .before .before .before .before .args .bodies .now) (c .before .before .before .before .before .before .before .before .before .before .shared-slice-known2 .given)) (c .before .if1 .left))
+slice-reshare-prefix-read c =
+    let at-if1 = c .before in
+    let at-write = at-if1 .before .before .before .before in
+    let at-shared-slice-known2 = at-write .before .before .before .before .before in
+    let at-args = at-shared-slice-known2 .before .before in
+    omega (arith, length-fits (at-write .write .ensures) (known-below w32 (at-args .args .bodies .now) (at-shared-slice-known2 .shared-slice-known2 .given)) (at-if1 .if1 .left))
 
 -- src/lib.rt:55:26
 slice-aggregate-read : tie.Need-slice-aggregate-read
-slice-aggregate-read c = sym (length-take-le (c .before .before .before .before .before .before .write .result .offset) _ (length-fits (c .before .before .before .before .before .before .write .ensures) (known-below w32 (c .before .before .before .before .before .before .before .before .before .before .before .before .before .args .bodies .now) (c .before .before .before .before .before .before .before .before .before .before .before .shared-slice-known2 .given)) (c .before .before .if1 .left)))
+slice-aggregate-read c =
+    let at-if1 = c .before .before in
+    let at-write = at-if1 .before .before .before .before in
+    let at-shared-slice-known2 = at-write .before .before .before .before .before in
+    let at-args = at-shared-slice-known2 .before .before in
+    sym (length-take-le (at-write .write .result .offset) _ (length-fits (at-write .write .ensures) (known-below w32 (at-args .args .bodies .now) (at-shared-slice-known2 .shared-slice-known2 .given)) (at-if1 .if1 .left)))
 
 -- src/lib.rt:55:9
 read-requires : tie.Need-read-requires
@@ -55,7 +65,13 @@ same-length-4 c = search needs
 
 -- src/lib.rt:38:1
 returns-2 : tie.Need-returns-2
-returns-2 c = table-back (c .before .before .before .before .before .before .before .before .before .before .before .before .before .write .ensures) (known-below w32 (c .before .before .before .before .before .before .before .before .before .before .before .before .before .before .before .before .before .before .before .before .args .bodies .now) (c .before .before .before .before .before .before .before .before .before .before .before .before .before .before .before .before .before .before .shared-slice-known2 .given)) (c .before .before .before .before .before .before .before .before .before .if1 .left) (c .before .before .before .before .read .ensures)
+returns-2 c =
+    let at-read = c .before .before .before .before in
+    let at-if1 = at-read .before .before .before .before .before in
+    let at-write = at-if1 .before .before .before .before in
+    let at-shared-slice-known2 = at-write .before .before .before .before .before in
+    let at-args = at-shared-slice-known2 .before .before in
+    table-back (at-write .write .ensures) (known-below w32 (at-args .args .bodies .now) (at-shared-slice-known2 .shared-slice-known2 .given)) (at-if1 .if1 .left) (at-read .read .ensures)
 
 pub write-then-read-spec : {M : Type 1} → statement M
 write-then-read-spec =

@@ -24,8 +24,10 @@ inside c = omega (arith, c .if1 .left, c .before .before .pre)
 -- Its number is one of its values.
 small : (c : tie.After-word-at) → c .word-at .result < 256 ^ 4
 small c =
-    let start = c .before .before .before .args in
-    rw (c .word-at .ensures) (field-below 256 (start .file .now) (start .at) 4 (inside (c .before)) (known-below w8 (start .file .now) (c .before .before .shared-slice-known .given)))
+    let at-shared-slice-known = c .before .before in
+    let at-args = at-shared-slice-known .before in
+    let start = at-args .args in
+    rw (c .word-at .ensures) (field-below 256 (start .file .now) (start .at) 4 (inside (c .before)) (known-below w8 (start .file .now) (at-shared-slice-known .shared-slice-known .given)))
 
 -- src/turn.rt:80:8
 sub-if1 : tie.Need-sub-if1
@@ -53,11 +55,19 @@ cast-t8 c = search needs
 
 -- src/turn.rt:86:9
 returns-2 : tie.Need-returns-2
-returns-2 c = turn-value _ _ _ _ _ _ _ _ (inside (c .before .before .before .before)) (c .before .before .before .word-at .ensures) (lt-ltb _ _ (small (c .before .before .before))) (sym (c .before .unless .ensures ∙ ap (λ b. F.unless b 8) (c .before .before .word-reaches .ensures)) ∙ c .if2 .taken)
+returns-2 c =
+    let at-unless = c .before in
+    let at-before-2 = at-unless .before in
+    let at-before = at-before-2 .before in
+    turn-value _ _ _ _ _ _ _ _ (inside (at-before .before)) (at-before .word-at .ensures) (lt-ltb _ _ (small (at-before-2 .before))) (sym (at-unless .unless .ensures ∙ ap (λ b. F.unless b 8) (at-before-2 .word-reaches .ensures)) ∙ c .if2 .taken)
 
 -- src/turn.rt:76:1
 returns-3 : tie.Need-returns-3
-returns-3 c = turn-fault _ _ _ _ _ _ _ _ (inside (c .before .before .before .before)) (c .before .before .before .word-at .ensures) _ (lt-ltb _ _ (small (c .before .before .before))) (c .before .unless .ensures ∙ ap (λ b. F.unless b 8) (c .before .before .word-reaches .ensures)) (c .if2 .left)
+returns-3 c =
+    let at-unless = c .before in
+    let at-before-2 = at-unless .before in
+    let at-before = at-before-2 .before in
+    turn-fault _ _ _ _ _ _ _ _ (inside (at-before .before)) (at-before .word-at .ensures) _ (lt-ltb _ _ (small (at-before-2 .before))) (at-unless .unless .ensures ∙ ap (λ b. F.unless b 8) (at-before-2 .word-reaches .ensures)) (c .if2 .left)
 
 pub member-count-at-spec : {M : Type 1} → statement M
 member-count-at-spec =

@@ -22,8 +22,10 @@ inside c = omega (arith, c .if1 .left, c .before .before .pre)
 -- Its number is one of its values.
 small : (c : tie.After-char-at) → c .char-at .result < 256 ^ 2
 small c =
-    let start = c .before .before .before .args in
-    rw (c .char-at .ensures) (field-below 256 (start .file .now) (start .at) 2 (inside (c .before)) (known-below w8 (start .file .now) (c .before .before .shared-slice-known .given)))
+    let at-shared-slice-known = c .before .before in
+    let at-args = at-shared-slice-known .before in
+    let start = at-args .args in
+    rw (c .char-at .ensures) (field-below 256 (start .file .now) (start .at) 2 (inside (c .before)) (known-below w8 (start .file .now) (at-shared-slice-known .shared-slice-known .given)))
 
 -- src/turn.rt:65:8
 sub-if1 : tie.Need-sub-if1
@@ -47,11 +49,17 @@ object-fault-requires c κs = search needs
 
 -- src/turn.rt:71:9
 returns-2 : tie.Need-returns-2
-returns-2 c = turn-value _ _ _ _ _ _ _ _ (inside (c .before .before .before)) (c .before .before .char-at .ensures) (lt-ltb _ _ (small (c .before .before))) (sym (c .before .object-fault .ensures) ∙ c .if2 .taken)
+returns-2 c =
+    let at-before-2 = c .before in
+    let at-before = at-before-2 .before in
+    turn-value _ _ _ _ _ _ _ _ (inside (at-before .before)) (at-before .char-at .ensures) (lt-ltb _ _ (small (at-before-2 .before))) (sym (at-before-2 .object-fault .ensures) ∙ c .if2 .taken)
 
 -- src/turn.rt:61:1
 returns-3 : tie.Need-returns-3
-returns-3 c = turn-fault _ _ _ _ _ _ _ _ (inside (c .before .before .before)) (c .before .before .char-at .ensures) _ (lt-ltb _ _ (small (c .before .before))) (c .before .object-fault .ensures) (c .if2 .left)
+returns-3 c =
+    let at-before-2 = c .before in
+    let at-before = at-before-2 .before in
+    turn-fault _ _ _ _ _ _ _ _ (inside (at-before .before)) (at-before .char-at .ensures) _ (lt-ltb _ _ (small (at-before-2 .before))) (at-before-2 .object-fault .ensures) (c .if2 .left)
 
 pub object-id-at-spec : {M : Type 1} → statement M
 object-id-at-spec =

@@ -26,8 +26,10 @@ is c = rw (← (c .before .before .size .ensures)) (c .value-at .ensures)
 -- It is one of the field's values.
 small : (c : tie.After-value-at) → let start = c .before .before .before .before .args in c .value-at .result < K.values (kindOf (start .kind) .shape)
 small c =
-    let start = c .before .before .before .before .args in
-    rw (is c, ← (readable (start .kind) .all)) (field-below 256 (start .file .now) (start .at) _ (inside (c .before)) (known-below w8 (start .file .now) (c .before .before .before .shared-slice-known .given)))
+    let at-shared-slice-known = c .before .before .before in
+    let at-args = at-shared-slice-known .before in
+    let start = at-args .args in
+    rw (is c, ← (readable (start .kind) .all)) (field-below 256 (start .file .now) (start .at) _ (inside (c .before)) (known-below w8 (start .file .now) (at-shared-slice-known .shared-slice-known .given)))
 
 pub turn-at-spec : {M : Type 1} → statement M
 turn-at-spec =

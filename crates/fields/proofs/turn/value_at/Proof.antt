@@ -14,8 +14,10 @@ eight c =
 
 returns-4 : tie.Need-returns-4
 returns-4 c =
-    let start = c .before .before .before .before .before in
-    rw (c .before .before .before .match .keys4) (omega (arith, c .joined .ensures, field-add 256 (start .args .file .now) (start .args .at) 2 4 (omega arith)))
+    let at-match = c .before .before .before in
+    let at-before = at-match .before in
+    let start = at-before .before in
+    rw (at-match .match .keys4) (omega (arith, c .joined .ensures, field-add 256 (start .args .file .now) (start .args .at) 2 4 (omega arith)))
 
 pub value-at-spec : {M : Type 1} → statement M
 value-at-spec =

@@ -9,8 +9,9 @@ use Rattle.format.proofs.decode.double_at.Tie as tie
 parts : (c : tie.After-char-at4)
     → Parts 256 (c .before .before .before .before .before .args .file .now) (c .before .before .before .before .before .args .at) 2 4
 parts c =
-    let start = c .before .before .before .before .before in
-    byte-parts (start .args .file .now) (start .args .at) 2 4 (c .before .before .before .before .shared-slice-known .given) (start .pre)
+    let at-before = c .before .before .before .before in
+    let start = at-before .before in
+    byte-parts (start .args .file .now) (start .args .at) 2 4 (at-before .shared-slice-known .given) (start .pre)
 
 returns : tie.Need-returns
 returns c = omega (arith, parts c)

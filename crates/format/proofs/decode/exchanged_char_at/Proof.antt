@@ -23,7 +23,10 @@ bytes s at known inside =
     (omega (arith, byte-parts s at 1 2 known inside, first, second), omega (arith, known at), omega (arith, known (at + 1)))
 
 both : (c : tie.After-shared-slice-known2) → Bytes (c .before .before .args .file .now) (c .before .before .args .at)
-both c = bytes (c .before .before .args .file .now) (c .before .before .args .at) (c .before .shared-slice-known .given) (c .before .before .pre)
+both c =
+    let at-shared-slice-known = c .before in
+    let at-args = at-shared-slice-known .before in
+    bytes (at-args .args .file .now) (at-args .args .at) (at-shared-slice-known .shared-slice-known .given) (at-args .pre)
 
 pub exchanged-char-at-spec : {M : Type 1} → statement M
 exchanged-char-at-spec =

@@ -8,7 +8,8 @@ use Rattle.format.proofs.encode.put_char.Tie as tie
 
 returns : tie.Need-returns
 returns c =
-    let second = c .before .before in
+    let at-before = c .before in
+    let second = at-before .before in
     let first = second .before .before .before .before in
     let start = first .before .before .before in
     put-add 256 (start .args .out .now) (start .args .at) (lit< tt) 1 1 (start .args .value) (start .pre .0) refl refl

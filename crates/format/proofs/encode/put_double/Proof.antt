@@ -10,7 +10,8 @@ use Rattle.format.proofs.encode.put_double.Tie as tie
 
 returns : tie.Need-returns
 returns c =
-    let second = c .before .before in
+    let at-before = c .before in
+    let second = at-before .before in
     let first = second .before .before .before .before .before in
     let start = first .before .before .before .before in
     let above : first .before .high .result ≡ start .args .value / 4294967296 = omega arith in

@@ -26,18 +26,26 @@ returns c =
 
 returns-2 : tie.Need-returns-2
 returns-2 c =
-    let args = c .before .before .before .before .before .args in
-    numbered (args .contents .now) (args .bodies .now) (args .row) 1 (c .paint2 .ensures .says) (c .before .if2 .taken)
+    let at-if2 = c .before in
+    let at-args = at-if2 .before .before .before .before in
+    let args = at-args .args in
+    numbered (args .contents .now) (args .bodies .now) (args .row) 1 (c .paint2 .ensures .says) (at-if2 .if2 .taken)
 
 returns-3 : tie.Need-returns-3
 returns-3 c =
-    let args = c .before .before .before .before .before .before .args in
-    numbered (args .contents .now) (args .bodies .now) (args .row) 2 (c .paint3 .ensures .says) (c .before .if3 .taken)
+    let at-if3 = c .before in
+    let at-args = at-if3 .before .before .before .before .before in
+    let args = at-args .args in
+    numbered (args .contents .now) (args .bodies .now) (args .row) 2 (c .paint3 .ensures .says) (at-if3 .if3 .taken)
 
 returns-4 : tie.Need-returns-4
 returns-4 c =
-    let args = c .before .before .before .before .before .before .args in
-    let no-part = no-such-part (args .which) (c .before .before .before .if1 .left) (c .before .before .if2 .left) (c .before .if3 .left) in
+    let at-if3 = c .before in
+    let at-if2 = at-if3 .before in
+    let at-if1 = at-if2 .before in
+    let at-args = at-if1 .before .before .before in
+    let args = at-args .args in
+    let no-part = no-such-part (args .which) (at-if1 .if1 .left) (at-if2 .if2 .left) (at-if3 .if3 .left) in
     c .no-part .ensures ∙ sym (ap (paintComputed (args .contents .now) (args .bodies .now) (args .row)) no-part)
 
 pub asked-spec : {M : Type 1} → statement M

@@ -17,17 +17,22 @@ abbrev noPaint : Object → Option Paint
 noPaint o = none
 
 returns : tie.Need-returns
-returns c = sym (no-table noPaint (λ d. paintValue) (Refused 16) (c .before .before .check .ensures) (c .before .before .before .before .before .args .row) (c .if1 .taken))
+returns c =
+    let at-check = c .before .before in
+    let at-args = at-check .before .before .before in
+    sym (no-table noPaint (λ d. paintValue) (Refused 16) (at-check .check .ensures) (at-args .args .row) (c .if1 .taken))
 
 returns-2 : tie.Need-returns-2
 returns-2 c =
-    let judged = c .before .before in
+    let at-before = c .before in
+    let judged = at-before .before in
     let called = judged .before .before in
     no-such-row noPaint (λ d. paintValue) (Refused 16) (called .check .ensures) (called .before .before .before .args .row) (judged .if1 .left) (c .if2 .taken) (λ d. refl)
 
 returns-3 : tie.Need-returns-3
 returns-3 c =
-    let judged = c .before .before in
+    let at-before = c .before in
+    let judged = at-before .before in
     let called = judged .before .before in
     let start = called .before .before .before in
     let below = known-below w32 (start .args .bodies .now) (called .before .shared-slice-known2 .given) in

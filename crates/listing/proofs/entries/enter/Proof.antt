@@ -17,7 +17,10 @@ same-length : tie.Need-same-length
 same-length c = search needs
 
 returns : tie.Need-returns
-returns c = entered (c .before .before .before .before .if1 .taken) (c .before .before .store-entry .ensures)
+returns c =
+    let at-store-entry = c .before .before in
+    let at-if1 = at-store-entry .before .before in
+    entered (at-if1 .if1 .taken) (at-store-entry .store-entry .ensures)
 
 returns-2 : tie.Need-returns-2
 returns-2 c = not-entered (c .if1 .left)

@@ -18,28 +18,45 @@ abbrev μ-loop : tie.MeasureT-loop
 μ-loop contents words label list₀ rows version row₀ count₀ list row count = rows - row
 
 loop-holds : tie.Need-loop-holds Inv-loop μ-loop
-loop-holds c = record { table = c .before .before .before .before .pre; gathering = gather-none (c .before .before .before .before .pre) (c .before .before .before .before .args .label .now) (c .before .before .before .before .args .list .now); most = omega arith }
+loop-holds c =
+    let at-pre = c .before .before .before .before in
+    record { table = at-pre .pre; gathering = gather-none (at-pre .pre) (at-pre .args .label .now) (at-pre .args .list .now); most = omega arith }
 
 is-labelled-requires : tie.Need-is-labelled-requires Inv-loop μ-loop
 is-labelled-requires c κs = row-here (c .before .loop .inv .table) (c .before .loop .row) (c .loop-test .taken)
 
 enter-requires : tie.Need-enter-requires Inv-loop μ-loop
-enter-requires c κs = let small = rows-small (c .before .before .before .loop .inv .table) in (omega (arith, small, c .before .before .loop-test .taken), omega (arith, small, c .before .before .loop-test .taken, c .before .before .before .loop .inv .gathering .few, c .before .before .before .loop .inv .gathering .count-is))
+enter-requires c κs =
+    let at-loop-test = c .before .before in
+    let at-loop = at-loop-test .before in
+    let small = rows-small (at-loop .loop .inv .table) in (omega (arith, small, at-loop-test .loop-test .taken), omega (arith, small, at-loop-test .loop-test .taken, at-loop .loop .inv .gathering .few, at-loop .loop .inv .gathering .count-is))
 
 add-row : tie.Need-add-row Inv-loop μ-loop
-add-row c = let small = rows-small (c .before .before .before .before .before .before .loop .inv .table) in omega (arith, small, c .before .before .before .before .before .loop-test .taken)
+add-row c =
+    let at-loop-test = c .before .before .before .before .before in
+    let at-loop = at-loop-test .before in
+    let small = rows-small (at-loop .loop .inv .table) in omega (arith, small, at-loop-test .loop-test .taken)
 
 loop-less : tie.Need-loop-less Inv-loop μ-loop
 loop-less c = omega (arith, c .before .before .before .before .before .loop-test .taken)
 
 loop-again : tie.Need-loop-again Inv-loop μ-loop
-loop-again c = record { table = c .before .before .before .before .before .before .loop .inv .table; gathering = gather-one (c .before .before .before .before .before .before .loop .inv .table) (c .before .before .before .before .before .before .before .before .before .before .before .args .label .now) (c .before .before .before .before .before .before .loop .inv .gathering) (c .before .before .before .before .before .loop-test .taken) (c .before .before .before .before .is-labelled .ensures) (c .before .before .enter .ensures); most = omega (arith, c .before .before .before .before .before .loop-test .taken) }
+loop-again c =
+    let at-enter = c .before .before in
+    let at-is-labelled = at-enter .before .before in
+    let at-loop-test = at-is-labelled .before in
+    let at-loop = at-loop-test .before in
+    let at-args = at-loop .before .before .before .before .before in
+    record { table = at-loop .loop .inv .table; gathering = gather-one (at-loop .loop .inv .table) (at-args .args .label .now) (at-loop .loop .inv .gathering) (at-loop-test .loop-test .taken) (at-is-labelled .is-labelled .ensures) (at-enter .enter .ensures); most = omega (arith, at-loop-test .loop-test .taken) }
 
 same-length : tie.Need-same-length Inv-loop μ-loop
 same-length c = c .before .loop .inv .gathering .written .same-length
 
 returns : tie.Need-returns Inv-loop μ-loop
-returns c = gather-all (c .before .loop .inv .table) (c .before .before .before .before .before .before .args .label .now) (c .before .loop .inv .gathering) (λ more. omega (arith, more, c .loop-test .left)) (c .before .loop .inv .most)
+returns c =
+    let at-loop = c .before in
+    let at-args = at-loop .before .before .before .before .before in
+    gather-all (at-loop .loop .inv .table) (at-args .args .label .now) (at-loop .loop .inv .gathering) (λ more. omega (arith, more, c .loop-test .left)) (at-loop .loop .inv .most)
 
 pub entries-spec : {M : Type 1} → statement M
 entries-spec =

@@ -15,7 +15,9 @@ use Rattle.places.proofs.behind.behind.Reads as behind-reads
 use Rattle.places.proofs.end.end_of.Reads as end-of-reads
 
 returns : tie.Need-returns
-returns c = λ o body. label-early (c .before .before .before .before .args .contents .now) (c .before .before .before .before .args .words .now) (c .before .before .before .before .args .version) (c .before .before .before .before .args .row) (c .before .before .before .before .args .label .now) (c .if1 .taken) o body
+returns c =
+    let at-args = c .before .before .before .before in
+    λ o body. label-early (at-args .args .contents .now) (at-args .args .words .now) (at-args .args .version) (at-args .args .row) (at-args .args .label .now) (c .if1 .taken) o body
 
 mul-start : tie.Need-mul-start
 mul-start c = search needs
@@ -48,7 +50,10 @@ cast-size : tie.Need-cast-size
 cast-size c = search needs
 
 returns-2 : tie.Need-returns-2
-returns-2 c = λ o body. too-long (c .before .before .before .before .before .before .before .args .contents .now) (c .before .before .before .before .before .before .before .args .words .now) (c .before .before .before .before .before .before .before .args .version) (c .before .before .before .before .before .before .before .args .row) (c .before .before .before .before .before .before .before .args .label .now) o (some-description (c .before .before .before .before .before .before .before .args .contents .now) (c .before .before .before .before .before .before .before .args .words .now) (c .before .before .before .before .before .before .before .args .version) (c .before .before .before .before .before .before .before .args .row) (omega (arith, c .before .before .before .if1 .left)) o body .1) (omega (arith, body .size-is, c .if2 .taken))
+returns-2 c =
+    let at-if1 = c .before .before .before in
+    let at-args = at-if1 .before .before .before .before in
+    λ o body. too-long (at-args .args .contents .now) (at-args .args .words .now) (at-args .args .version) (at-args .args .row) (at-args .args .label .now) o (some-description (at-args .args .contents .now) (at-args .args .words .now) (at-args .args .version) (at-args .args .row) (omega (arith, at-if1 .if1 .left)) o body .1) (omega (arith, body .size-is, c .if2 .taken))
 
 add-from : tie.Need-add-from
 add-from c = search needs
@@ -66,10 +71,16 @@ shared-slice-read-if3 : tie.Need-shared-slice-read-if3
 shared-slice-read-if3 c = search needs
 
 cast-if3 : tie.Need-cast-if3
-cast-if3 c = let fit = c .shared-slice-known6 .given ((getD (c .before .before .before .before .before .before .before .before .args .contents .now) (4 * c .before .before .before .before .before .before .before .before .args .row + 2) 0 + getD (c .before .before .before .before .before .before .before .before .args .contents .now) (4 * c .before .before .before .before .before .before .before .before .args .row + 3) 0 - length (c .before .before .before .before .before .before .before .before .args .label .now)) - 1) in omega (arith, fit)
+cast-if3 c =
+    let at-args = c .before .before .before .before .before .before .before .before in
+    let fit = c .shared-slice-known6 .given ((getD (at-args .args .contents .now) (4 * at-args .args .row + 2) 0 + getD (at-args .args .contents .now) (4 * at-args .args .row + 3) 0 - length (at-args .args .label .now)) - 1) in omega (arith, fit)
 
 returns-3 : tie.Need-returns-3
-returns-3 c = λ o body. other-number (c .before .before .before .before .before .before .before .before .before .args .contents .now) (c .before .before .before .before .before .before .before .before .before .args .words .now) (c .before .before .before .before .before .before .before .before .before .args .version) (c .before .before .before .before .before .before .before .before .before .args .row) (c .before .before .before .before .before .before .before .before .before .args .label .now) o (some-description (c .before .before .before .before .before .before .before .before .before .args .contents .now) (c .before .before .before .before .before .before .before .before .before .args .words .now) (c .before .before .before .before .before .before .before .before .before .args .version) (c .before .before .before .before .before .before .before .before .before .args .row) (omega (arith, c .before .before .before .before .before .if1 .left)) o body .1) (getD (c .before .before .before .before .before .before .before .before .before .args .contents .now) (4 * c .before .before .before .before .before .before .before .before .before .args .row + 2) 0 + getD (c .before .before .before .before .before .before .before .before .before .args .contents .now) (4 * c .before .before .before .before .before .before .before .before .before .args .row + 3) 0 - length (c .before .before .before .before .before .before .before .before .before .args .label .now)) (omega (arith, body .size-is, c .before .before .if2 .left)) (c .if3 .taken)
+returns-3 c =
+    let at-if2 = c .before .before in
+    let at-if1 = at-if2 .before .before .before in
+    let at-args = at-if1 .before .before .before .before in
+    λ o body. other-number (at-args .args .contents .now) (at-args .args .words .now) (at-args .args .version) (at-args .args .row) (at-args .args .label .now) o (some-description (at-args .args .contents .now) (at-args .args .words .now) (at-args .args .version) (at-args .args .row) (omega (arith, at-if1 .if1 .left)) o body .1) (getD (at-args .args .contents .now) (4 * at-args .args .row + 2) 0 + getD (at-args .args .contents .now) (4 * at-args .args .row + 3) 0 - length (at-args .args .label .now)) (omega (arith, body .size-is, at-if2 .if2 .left)) (c .if3 .taken)
 
 same-chars-requires : tie.Need-same-chars-requires
 same-chars-requires c κs = search needs
@@ -78,16 +89,30 @@ end-of-requires : tie.Need-end-of-requires
 end-of-requires c κs = search needs
 
 behind-requires : tie.Need-behind-requires
-behind-requires c κs = let e = c .end-of .ensures (c .before .before .before .before .before .before .before .before .before .before .before .before .pre .object) (c .before .before .before .before .before .before .before .before .before .before .before .before .pre .body) in (e .here .stands .within, c .before .before .before .before .before .before .before .before .before .before .before .before .pre .short)
+behind-requires c κs =
+    let at-pre = c .before .before .before .before .before .before .before .before .before .before .before .before in
+    let e = c .end-of .ensures (at-pre .pre .object) (at-pre .pre .body) in (e .here .stands .within, at-pre .pre .short)
 
 add-result : tie.Need-add-result
 add-result c = search needs
 
 returns-4 : tie.Need-returns-4
-returns-4 c = λ o body. told-by-place (c .before .before .before .before .before .before .before .before .before .before .before .before .before .args .contents .now) (c .before .before .before .before .before .before .before .before .before .before .before .before .before .args .words .now) (c .before .before .before .before .before .before .before .before .before .before .before .before .before .args .version) (c .before .before .before .before .before .before .before .before .before .before .before .before .before .args .row) (c .before .before .before .before .before .before .before .before .before .before .before .before .before .args .label .now) o (described (c .before .before .before .before .before .before .before .before .before .before .before .before .before .args .contents .now) (c .before .before .before .before .before .before .before .before .before .before .before .before .before .args .words .now) (c .before .before .before .before .before .before .before .before .before .before .before .before .before .args .version) (c .before .before .before .before .before .before .before .before .before .before .before .before .before .args .row) (omega (arith, c .before .before .before .before .before .before .before .before .before .if1 .left)) o (c .before .end-of .ensures o body) (c .behind .ensures .is)) (getD (c .before .before .before .before .before .before .before .before .before .before .before .before .before .args .contents .now) (4 * c .before .before .before .before .before .before .before .before .before .before .before .before .before .args .row + 2) 0 + getD (c .before .before .before .before .before .before .before .before .before .before .before .before .before .args .contents .now) (4 * c .before .before .before .before .before .before .before .before .before .before .before .before .before .args .row + 3) 0 - length (c .before .before .before .before .before .before .before .before .before .before .before .before .before .args .label .now)) (omega (arith, body .size-is, c .before .before .before .before .before .before .if2 .left)) (sym (c .before .before .before .same-chars .ensures) ∙ c .before .before .if4 .taken)
+returns-4 c =
+    let at-end-of = c .before in
+    let at-if4 = at-end-of .before in
+    let at-same-chars = at-if4 .before in
+    let at-if2 = at-same-chars .before .before .before in
+    let at-if1 = at-if2 .before .before .before in
+    let at-args = at-if1 .before .before .before .before in
+    λ o body. told-by-place (at-args .args .contents .now) (at-args .args .words .now) (at-args .args .version) (at-args .args .row) (at-args .args .label .now) o (described (at-args .args .contents .now) (at-args .args .words .now) (at-args .args .version) (at-args .args .row) (omega (arith, at-if1 .if1 .left)) o (at-end-of .end-of .ensures o body) (c .behind .ensures .is)) (getD (at-args .args .contents .now) (4 * at-args .args .row + 2) 0 + getD (at-args .args .contents .now) (4 * at-args .args .row + 3) 0 - length (at-args .args .label .now)) (omega (arith, body .size-is, at-if2 .if2 .left)) (sym (at-same-chars .same-chars .ensures) ∙ at-if4 .if4 .taken)
 
 returns-5 : tie.Need-returns-5
-returns-5 c = λ o body. other-chars (c .before .before .before .before .before .before .before .before .before .before .before .args .contents .now) (c .before .before .before .before .before .before .before .before .before .before .before .args .words .now) (c .before .before .before .before .before .before .before .before .before .before .before .args .version) (c .before .before .before .before .before .before .before .before .before .before .before .args .row) (c .before .before .before .before .before .before .before .before .before .before .before .args .label .now) o (some-description (c .before .before .before .before .before .before .before .before .before .before .before .args .contents .now) (c .before .before .before .before .before .before .before .before .before .before .before .args .words .now) (c .before .before .before .before .before .before .before .before .before .before .before .args .version) (c .before .before .before .before .before .before .before .before .before .before .before .args .row) (omega (arith, c .before .before .before .before .before .before .before .if1 .left)) o body .1) (getD (c .before .before .before .before .before .before .before .before .before .before .before .args .contents .now) (4 * c .before .before .before .before .before .before .before .before .before .before .before .args .row + 2) 0 + getD (c .before .before .before .before .before .before .before .before .before .before .before .args .contents .now) (4 * c .before .before .before .before .before .before .before .before .before .before .before .args .row + 3) 0 - length (c .before .before .before .before .before .before .before .before .before .before .before .args .label .now)) (omega (arith, body .size-is, c .before .before .before .before .if2 .left)) (sym (c .before .same-chars .ensures) ∙ c .if4 .left)
+returns-5 c =
+    let at-same-chars = c .before in
+    let at-if2 = at-same-chars .before .before .before in
+    let at-if1 = at-if2 .before .before .before in
+    let at-args = at-if1 .before .before .before .before in
+    λ o body. other-chars (at-args .args .contents .now) (at-args .args .words .now) (at-args .args .version) (at-args .args .row) (at-args .args .label .now) o (some-description (at-args .args .contents .now) (at-args .args .words .now) (at-args .args .version) (at-args .args .row) (omega (arith, at-if1 .if1 .left)) o body .1) (getD (at-args .args .contents .now) (4 * at-args .args .row + 2) 0 + getD (at-args .args .contents .now) (4 * at-args .args .row + 3) 0 - length (at-args .args .label .now)) (omega (arith, body .size-is, at-if2 .if2 .left)) (sym (at-same-chars .same-chars .ensures) ∙ c .if4 .left)
 
 pub is-labelled-spec : {M : Type 1} → statement M
 is-labelled-spec =

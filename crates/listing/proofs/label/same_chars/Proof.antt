@@ -41,7 +41,11 @@ cast-if1 : tie.Need-cast-if1 Inv-loop μ-loop
 cast-if1 c = let fit = c .shared-slice-known2 .given (c .before .before .before .loop .i) in omega (arith, fit)
 
 returns : tie.Need-returns Inv-loop μ-loop
-returns c = sym (c .before .before .before .before .loop .inv .0 ∙ one-char (c .before .before .before .before .before .args .words .now) (c .before .before .before .before .before .args .label .now) (c .before .before .before .before .before .args .from) (c .before .before .before .before .loop .i) (c .before .before .before .loop-test .taken) (c .before .before .before .before .before .pre) ∙ ap (λ t. t && left (c .before .before .before .before .before .args .words .now) (c .before .before .before .before .before .args .label .now) (c .before .before .before .before .before .args .from) (c .before .before .before .before .loop .i + 1)) (ne-eqb (getD (c .before .before .before .before .before .args .words .now) (c .before .before .before .before .before .args .from + c .before .before .before .before .loop .i) 0) (getD (c .before .before .before .before .before .args .label .now) (c .before .before .before .before .loop .i) 0) (c .if1 .taken)))
+returns c =
+    let at-loop-test = c .before .before .before in
+    let at-loop = at-loop-test .before in
+    let at-args = at-loop .before in
+    sym (at-loop .loop .inv .0 ∙ one-char (at-args .args .words .now) (at-args .args .label .now) (at-args .args .from) (at-loop .loop .i) (at-loop-test .loop-test .taken) (at-args .pre) ∙ ap (λ t. t && left (at-args .args .words .now) (at-args .args .label .now) (at-args .args .from) (at-loop .loop .i + 1)) (ne-eqb (getD (at-args .args .words .now) (at-args .args .from + at-loop .loop .i) 0) (getD (at-args .args .label .now) (at-loop .loop .i) 0) (c .if1 .taken)))
 
 add-i : tie.Need-add-i Inv-loop μ-loop
 add-i c = search needs
@@ -50,10 +54,17 @@ loop-less : tie.Need-loop-less Inv-loop μ-loop
 loop-less c = omega (arith, c .before .before .before .loop-test .taken)
 
 loop-again : tie.Need-loop-again Inv-loop μ-loop
-loop-again c = (c .before .before .before .before .loop .inv .0 ∙ one-char (c .before .before .before .before .before .args .words .now) (c .before .before .before .before .before .args .label .now) (c .before .before .before .before .before .args .from) (c .before .before .before .before .loop .i) (c .before .before .before .loop-test .taken) (c .before .before .before .before .before .pre) ∙ ap (λ t. t && left (c .before .before .before .before .before .args .words .now) (c .before .before .before .before .before .args .label .now) (c .before .before .before .before .before .args .from) (c .before .before .before .before .loop .i + 1)) (eq-eqb (getD (c .before .before .before .before .before .args .words .now) (c .before .before .before .before .before .args .from + c .before .before .before .before .loop .i) 0) (getD (c .before .before .before .before .before .args .label .now) (c .before .before .before .before .loop .i) 0) (c .if1 .left)), omega (arith, c .before .before .before .loop-test .taken))
+loop-again c =
+    let at-loop-test = c .before .before .before in
+    let at-loop = at-loop-test .before in
+    let at-args = at-loop .before in
+    (at-loop .loop .inv .0 ∙ one-char (at-args .args .words .now) (at-args .args .label .now) (at-args .args .from) (at-loop .loop .i) (at-loop-test .loop-test .taken) (at-args .pre) ∙ ap (λ t. t && left (at-args .args .words .now) (at-args .args .label .now) (at-args .args .from) (at-loop .loop .i + 1)) (eq-eqb (getD (at-args .args .words .now) (at-args .args .from + at-loop .loop .i) 0) (getD (at-args .args .label .now) (at-loop .loop .i) 0) (c .if1 .left)), omega (arith, at-loop-test .loop-test .taken))
 
 returns-2 : tie.Need-returns-2 Inv-loop μ-loop
-returns-2 c = sym (c .before .loop .inv .0 ∙ no-char (c .before .before .args .words .now) (c .before .before .args .label .now) (c .before .before .args .from) (c .before .loop .i) (omega (arith, c .loop-test .left)))
+returns-2 c =
+    let at-loop = c .before in
+    let at-args = at-loop .before in
+    sym (at-loop .loop .inv .0 ∙ no-char (at-args .args .words .now) (at-args .args .label .now) (at-args .args .from) (at-loop .loop .i) (omega (arith, c .loop-test .left)))
 
 pub same-chars-spec : {M : Type 1} → statement M
 same-chars-spec =

@@ -15,40 +15,89 @@ check-requires : tie.Need-check-requires
 check-requires c κs = search needs
 
 returns : tie.Need-returns
-returns c = list-refused (known-below w32 (c .before .before .before .before .before .before .before .args .words .now) (c .before .before .before .before .before .shared-slice-known2 .given)) (c .before .before .check .ensures) (c .before .before .before .before .before .before .before .args .label .now) (c .before .before .before .before .before .before .before .args .list .now) (c .if1 .taken)
+returns c =
+    let at-check = c .before .before in
+    let at-shared-slice-known2 = at-check .before .before .before in
+    let at-args = at-shared-slice-known2 .before .before in
+    list-refused (known-below w32 (at-args .args .words .now) (at-shared-slice-known2 .shared-slice-known2 .given)) (at-check .check .ensures) (at-args .args .label .now) (at-args .args .list .now) (c .if1 .taken)
 
 cast-rows : tie.Need-cast-rows
 cast-rows c = search needs
 
 shared-slice-read-version : tie.Need-shared-slice-read-version
-shared-slice-read-version c = some-word (known-below w32 (c .before .before .before .before .before .before .before .before .before .args .words .now) (c .before .before .before .before .before .before .before .shared-slice-known2 .given)) (c .before .before .before .before .check .ensures) (c .before .before .before .before .before .before .before .before .before .args .label .now) (c .before .before .before .before .before .before .before .before .before .args .list .now) (c .before .before .if1 .left)
+shared-slice-read-version c =
+    let at-if1 = c .before .before in
+    let at-check = at-if1 .before .before in
+    let at-shared-slice-known2 = at-check .before .before .before in
+    let at-args = at-shared-slice-known2 .before .before in
+    some-word (known-below w32 (at-args .args .words .now) (at-shared-slice-known2 .shared-slice-known2 .given)) (at-check .check .ensures) (at-args .args .label .now) (at-args .args .list .now) (at-if1 .if1 .left)
 
 entries-requires : tie.Need-entries-requires
-entries-requires c κs = table-here (known-below w32 (c .before .before .before .before .before .before .before .before .before .before .before .args .words .now) (c .before .before .before .before .before .before .before .before .before .shared-slice-known2 .given)) (c .before .before .before .before .before .before .check .ensures) (c .before .before .before .before .before .before .before .before .before .before .before .args .label .now) (c .before .before .before .before .before .before .before .before .before .before .before .args .list .now) (c .before .before .before .before .if1 .left)
+entries-requires c κs =
+    let at-if1 = c .before .before .before .before in
+    let at-check = at-if1 .before .before in
+    let at-shared-slice-known2 = at-check .before .before .before in
+    let at-args = at-shared-slice-known2 .before .before in
+    table-here (known-below w32 (at-args .args .words .now) (at-shared-slice-known2 .shared-slice-known2 .given)) (at-check .check .ensures) (at-args .args .label .now) (at-args .args .list .now) (at-if1 .if1 .left)
 
 cast-t17 : tie.Need-cast-t17
-cast-t17 c = omega (arith, count-small (known-below w32 (c .before .before .before .before .before .before .before .before .before .before .before .before .before .before .args .words .now) (c .before .before .before .before .before .before .before .before .before .before .before .before .shared-slice-known2 .given)) (c .before .before .before .before .before .before .before .before .before .check .ensures) (c .before .before .before .before .before .before .before .before .before .before .before .before .before .before .args .label .now) (c .before .before .before .before .before .before .before .before .before .before .before .before .before .before .args .list .now) (c .before .before .before .before .before .before .before .if1 .left) (c .before .before .entries .ensures))
+cast-t17 c =
+    let at-entries = c .before .before in
+    let at-if1 = at-entries .before .before .before .before .before in
+    let at-check = at-if1 .before .before in
+    let at-shared-slice-known2 = at-check .before .before .before in
+    let at-args = at-shared-slice-known2 .before .before in
+    omega (arith, count-small (known-below w32 (at-args .args .words .now) (at-shared-slice-known2 .shared-slice-known2 .given)) (at-check .check .ensures) (at-args .args .label .now) (at-args .args .list .now) (at-if1 .if1 .left) (at-entries .entries .ensures))
 
 same-length : tie.Need-same-length
 same-length c = search needs
 
 returns-2 : tie.Need-returns-2
-returns-2 c = list-stored-at-once (known-below w32 (c .before .before .before .before .before .before .before .before .before .before .before .before .before .before .args .words .now) (c .before .before .before .before .before .before .before .before .before .before .before .before .shared-slice-known2 .given)) (c .before .before .before .before .before .before .before .before .before .check .ensures) (c .before .before .before .before .before .before .before .before .before .before .before .before .before .before .args .label .now) (c .before .before .before .before .before .before .before .before .before .before .before .before .before .before .args .list .now) (c .before .before .before .before .before .before .before .if1 .left) (omega (arith, c .before .before .before .before .if2 .taken)) (c .before .before .entries .ensures)
+returns-2 c =
+    let at-entries = c .before .before in
+    let at-if2 = at-entries .before .before in
+    let at-if1 = at-if2 .before .before .before in
+    let at-check = at-if1 .before .before in
+    let at-shared-slice-known2 = at-check .before .before .before in
+    let at-args = at-shared-slice-known2 .before .before in
+    list-stored-at-once (known-below w32 (at-args .args .words .now) (at-shared-slice-known2 .shared-slice-known2 .given)) (at-check .check .ensures) (at-args .args .label .now) (at-args .args .list .now) (at-if1 .if1 .left) (omega (arith, at-if2 .if2 .taken)) (at-entries .entries .ensures)
 
 slice-aggregate-entries : tie.Need-slice-aggregate-entries
 slice-aggregate-entries c = search needs
 
 entries-requires-2 : tie.Need-entries-requires-2
-entries-requires-2 c κs = table-here (known-below w32 (c .before .before .before .before .before .before .before .before .before .before .before .args .words .now) (c .before .before .before .before .before .before .before .before .before .shared-slice-known2 .given)) (c .before .before .before .before .before .before .check .ensures) (c .before .before .before .before .before .before .before .before .before .before .before .args .label .now) (c .before .before .before .before .before .before .before .before .before .before .before .args .list .now) (c .before .before .before .before .if1 .left)
+entries-requires-2 c κs =
+    let at-if1 = c .before .before .before .before in
+    let at-check = at-if1 .before .before in
+    let at-shared-slice-known2 = at-check .before .before .before in
+    let at-args = at-shared-slice-known2 .before .before in
+    table-here (known-below w32 (at-args .args .words .now) (at-shared-slice-known2 .shared-slice-known2 .given)) (at-check .check .ensures) (at-args .args .label .now) (at-args .args .list .now) (at-if1 .if1 .left)
 
 cast-t20 : tie.Need-cast-t20
-cast-t20 c = omega (arith, count-small (known-below w32 (c .before .before .before .before .before .before .before .before .before .before .before .before .before .before .args .words .now) (c .before .before .before .before .before .before .before .before .before .before .before .before .shared-slice-known2 .given)) (c .before .before .before .before .before .before .before .before .before .check .ensures) (c .before .before .before .before .before .before .before .before .before .before .before .before .before .before .args .label .now) (c .before .before .before .before .before .before .before .before .before .before .before .before .before .before .args .list .now) (c .before .before .before .before .before .before .before .if1 .left) (c .before .before .entries2 .ensures))
+cast-t20 c =
+    let at-entries2 = c .before .before in
+    let at-if1 = at-entries2 .before .before .before .before .before in
+    let at-check = at-if1 .before .before in
+    let at-shared-slice-known2 = at-check .before .before .before in
+    let at-args = at-shared-slice-known2 .before .before in
+    omega (arith, count-small (known-below w32 (at-args .args .words .now) (at-shared-slice-known2 .shared-slice-known2 .given)) (at-check .check .ensures) (at-args .args .label .now) (at-args .args .list .now) (at-if1 .if1 .left) (at-entries2 .entries2 .ensures))
 
 returns-3 : tie.Need-returns-3
-returns-3 c = list-short (known-below w32 (c .before .before .before .before .before .before .before .before .before .before .before .before .before .before .args .words .now) (c .before .before .before .before .before .before .before .before .before .before .before .before .shared-slice-known2 .given)) (c .before .before .before .before .before .before .before .before .before .check .ensures) (c .before .before .before .before .before .before .before .before .before .before .before .before .before .before .args .label .now) (c .before .before .before .before .before .before .before .before .before .before .before .before .before .before .args .list .now) (c .before .before .before .before .before .before .before .if1 .left) (c .before .before .entries2 .ensures) (c .if3 .taken)
+returns-3 c =
+    let at-entries2 = c .before .before in
+    let at-if1 = at-entries2 .before .before .before .before .before in
+    let at-check = at-if1 .before .before in
+    let at-shared-slice-known2 = at-check .before .before .before in
+    let at-args = at-shared-slice-known2 .before .before in
+    list-short (known-below w32 (at-args .args .words .now) (at-shared-slice-known2 .shared-slice-known2 .given)) (at-check .check .ensures) (at-args .args .label .now) (at-args .args .list .now) (at-if1 .if1 .left) (at-entries2 .entries2 .ensures) (c .if3 .taken)
 
 entries-requires-3 : tie.Need-entries-requires-3
-entries-requires-3 c κs = table-here (known-below w32 (c .before .before .before .before .before .before .before .before .before .before .before .before .before .before .before .args .words .now) (c .before .before .before .before .before .before .before .before .before .before .before .before .before .shared-slice-known2 .given)) (c .before .before .before .before .before .before .before .before .before .before .check .ensures) (c .before .before .before .before .before .before .before .before .before .before .before .before .before .before .before .args .label .now) (c .before .before .before .before .before .before .before .before .before .before .before .before .before .before .before .args .list .now) (c .before .before .before .before .before .before .before .before .if1 .left)
+entries-requires-3 c κs =
+    let at-if1 = c .before .before .before .before .before .before .before .before in
+    let at-check = at-if1 .before .before in
+    let at-shared-slice-known2 = at-check .before .before .before in
+    let at-args = at-shared-slice-known2 .before .before in
+    table-here (known-below w32 (at-args .args .words .now) (at-shared-slice-known2 .shared-slice-known2 .given)) (at-check .check .ensures) (at-args .args .label .now) (at-args .args .list .now) (at-if1 .if1 .left)
 
 cast-t13 : tie.Need-cast-t13
 cast-t13 c = search needs
@@ -57,7 +106,15 @@ same-length-2 : tie.Need-same-length-2
 same-length-2 c = search needs
 
 returns-4 : tie.Need-returns-4
-returns-4 c = list-stored (known-below w32 (c .before .before .before .before .before .before .before .before .before .before .before .before .before .before .before .before .before .before .args .words .now) (c .before .before .before .before .before .before .before .before .before .before .before .before .before .before .before .before .shared-slice-known2 .given)) (c .before .before .before .before .before .before .before .before .before .before .before .before .before .check .ensures) (c .before .before .before .before .before .before .before .before .before .before .before .before .before .before .before .before .before .before .args .label .now) (c .before .before .before .before .before .before .before .before .before .before .before .before .before .before .before .before .before .before .args .list .now) (c .before .before .before .before .before .before .before .before .before .before .before .if1 .left) (c .before .before .before .before .before .before .entries2 .ensures) (λ short. omega (arith, short, c .before .before .before .before .if3 .left)) (c .before .before .entries3 .ensures)
+returns-4 c =
+    let at-entries3 = c .before .before in
+    let at-if3 = at-entries3 .before .before in
+    let at-entries2 = at-if3 .before .before in
+    let at-if1 = at-entries2 .before .before .before .before .before in
+    let at-check = at-if1 .before .before in
+    let at-shared-slice-known2 = at-check .before .before .before in
+    let at-args = at-shared-slice-known2 .before .before in
+    list-stored (known-below w32 (at-args .args .words .now) (at-shared-slice-known2 .shared-slice-known2 .given)) (at-check .check .ensures) (at-args .args .label .now) (at-args .args .list .now) (at-if1 .if1 .left) (at-entries2 .entries2 .ensures) (λ short. omega (arith, short, at-if3 .if3 .left)) (at-entries3 .entries3 .ensures)
 
 pub list-spec : {M : Type 1} → statement M
 list-spec =

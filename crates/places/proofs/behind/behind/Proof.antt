@@ -24,7 +24,11 @@ pass-requires : tie.Need-pass-requires
 pass-requires c κs = search needs
 
 returns : tie.Need-returns
-returns c = passed (layoutOf (c .before .before .before .before .before .before .before .args .part) (c .before .before .before .before .before .before .before .args .version)) (known-below w32 (c .before .before .before .before .before .before .before .args .words .now) (c .before .before .before .before .before .before .shared-slice-known .given)) refl (c .before .before .pass .ensures)
+returns c =
+    let at-pass = c .before .before in
+    let at-shared-slice-known = at-pass .before .before .before .before in
+    let at-args = at-shared-slice-known .before in
+    passed (layoutOf (at-args .args .part) (at-args .args .version)) (known-below w32 (at-args .args .words .now) (at-shared-slice-known .shared-slice-known .given)) refl (at-pass .pass .ensures)
 
 pub behind-spec : {M : Type 1} → statement M
 behind-spec =

@@ -36,7 +36,10 @@ behind-requires : tie.Need-behind-requires
 behind-requires c κs = search needs
 
 returns : tie.Need-returns
-returns c = λ o body. group-end (c .before .before .before .before .before .before .args .contents .now) (c .before .before .before .before .before .before .args .words .now) (c .before .before .before .before .before .before .args .version) (c .before .before .before .before .before .before .args .row) o body (c .before .if1 .taken) (c .behind .ensures .is)
+returns c =
+    let at-if1 = c .before in
+    let at-args = at-if1 .before .before .before .before .before in
+    λ o body. group-end (at-args .args .contents .now) (at-args .args .words .now) (at-args .args .version) (at-args .args .row) o body (at-if1 .if1 .taken) (c .behind .ensures .is)
 
 letter-of-requires : tie.Need-letter-of-requires
 letter-of-requires c κs = search needs
@@ -45,7 +48,11 @@ behind-requires-2 : tie.Need-behind-requires-2
 behind-requires-2 c κs = search needs
 
 returns-2 : tie.Need-returns-2
-returns-2 c = λ o body. leaf-end (c .before .before .before .before .before .before .before .args .contents .now) (c .before .before .before .before .before .before .before .args .words .now) (c .before .before .before .before .before .before .before .args .version) (c .before .before .before .before .before .before .before .args .row) o body (c .before .before .if1 .left) (c .before .letter-of .ensures .0) (c .behind2 .ensures .is)
+returns-2 c =
+    let at-letter-of = c .before in
+    let at-if1 = at-letter-of .before in
+    let at-args = at-if1 .before .before .before .before .before in
+    λ o body. leaf-end (at-args .args .contents .now) (at-args .args .words .now) (at-args .args .version) (at-args .args .row) o body (at-if1 .if1 .left) (at-letter-of .letter-of .ensures .0) (c .behind2 .ensures .is)
 
 pub end-of-spec : {M : Type 1} → statement M
 end-of-spec =

@@ -19,20 +19,47 @@ check-requires : tie.Need-check-requires
 check-requires c κs = search needs
 
 returns : tie.Need-returns
-returns c = paints (known-below w32 (c .before .before .before .before .before .args .words .now) (c .before .before .before .shared-slice-known2 .given)) (sym (no-table (paintPart (c .before .before .before .before .before .args .which)) (λ d. paintValue) (Refused 16) (c .before .before .check .ensures) (c .before .before .before .before .before .args .row) (c .if1 .taken)))
+returns c =
+    let at-check = c .before .before in
+    let at-shared-slice-known2 = at-check .before in
+    let at-args = at-shared-slice-known2 .before .before in
+    paints (known-below w32 (at-args .args .words .now) (at-shared-slice-known2 .shared-slice-known2 .given)) (sym (no-table (paintPart (at-args .args .which)) (λ d. paintValue) (Refused 16) (at-check .check .ensures) (at-args .args .row) (c .if1 .taken)))
 
 returns-2 : tie.Need-returns-2
-returns-2 c = paints (known-below w32 (c .before .before .before .before .before .before .before .args .words .now) (c .before .before .before .before .before .shared-slice-known2 .given)) (no-such-row (paintPart (c .before .before .before .before .before .before .before .args .which)) (λ d. paintValue) (Refused 16) (c .before .before .before .before .check .ensures) (c .before .before .before .before .before .before .before .args .row) (c .before .before .if1 .left) (c .if2 .taken) (λ d. refl))
+returns-2 c =
+    let at-if1 = c .before .before in
+    let at-check = at-if1 .before .before in
+    let at-shared-slice-known2 = at-check .before in
+    let at-args = at-shared-slice-known2 .before .before in
+    paints (known-below w32 (at-args .args .words .now) (at-shared-slice-known2 .shared-slice-known2 .given)) (no-such-row (paintPart (at-args .args .which)) (λ d. paintValue) (Refused 16) (at-check .check .ensures) (at-args .args .row) (at-if1 .if1 .left) (c .if2 .taken) (λ d. refl))
 
 shared-slice-read-version : tie.Need-shared-slice-read-version
-shared-slice-read-version c = (asked (c .before .before .before .before .before .check .ensures) (c .before .before .before .before .before .before .before .before .args .row) (c .before .before .before .if1 .left) (known-below w32 (c .before .before .before .before .before .before .before .before .args .words .now) (c .before .before .before .before .before .before .shared-slice-known2 .given)) (omega (arith, c .before .if2 .left))) .begun
+shared-slice-read-version c =
+    let at-if2 = c .before in
+    let at-if1 = at-if2 .before .before in
+    let at-check = at-if1 .before .before in
+    let at-shared-slice-known2 = at-check .before in
+    let at-args = at-shared-slice-known2 .before .before in
+    (asked (at-check .check .ensures) (at-args .args .row) (at-if1 .if1 .left) (known-below w32 (at-args .args .words .now) (at-shared-slice-known2 .shared-slice-known2 .given)) (omega (arith, at-if2 .if2 .left))) .begun
 
 paint-of-requires : tie.Need-paint-of-requires
-paint-of-requires c κs = (asked (c .before .before .before .before .before .check .ensures) (c .before .before .before .before .before .before .before .before .args .row) (c .before .before .before .if1 .left) (known-below w32 (c .before .before .before .before .before .before .before .before .args .words .now) (c .before .before .before .before .before .before .shared-slice-known2 .given)) (omega (arith, c .before .if2 .left))) .has
+paint-of-requires c κs =
+    let at-if2 = c .before in
+    let at-if1 = at-if2 .before .before in
+    let at-check = at-if1 .before .before in
+    let at-shared-slice-known2 = at-check .before in
+    let at-args = at-shared-slice-known2 .before .before in
+    (asked (at-check .check .ensures) (at-args .args .row) (at-if1 .if1 .left) (known-below w32 (at-args .args .words .now) (at-shared-slice-known2 .shared-slice-known2 .given)) (omega (arith, at-if2 .if2 .left))) .has
 
 returns-3 : tie.Need-returns-3
-returns-3 c = let it = (asked (c .before .before .before .before .before .before .check .ensures) (c .before .before .before .before .before .before .before .before .before .args .row) (c .before .before .before .before .if1 .left) (known-below w32 (c .before .before .before .before .before .before .before .before .before .args .words .now) (c .before .before .before .before .before .before .before .shared-slice-known2 .given)) (omega (arith, c .before .before .if2 .left))) in
-    paints (known-below w32 (c .before .before .before .before .before .before .before .before .before .args .words .now) (c .before .before .before .before .before .before .before .shared-slice-known2 .given)) (c .paint-of .ensures (it .object) (it .body) ∙ sym (asked-part (paintPart (c .before .before .before .before .before .before .before .before .before .args .which)) (λ d. paintValue) (Refused 16) it))
+returns-3 c =
+    let at-if2 = c .before .before in
+    let at-if1 = at-if2 .before .before in
+    let at-check = at-if1 .before .before in
+    let at-shared-slice-known2 = at-check .before in
+    let at-args = at-shared-slice-known2 .before .before in
+    let it = (asked (at-check .check .ensures) (at-args .args .row) (at-if1 .if1 .left) (known-below w32 (at-args .args .words .now) (at-shared-slice-known2 .shared-slice-known2 .given)) (omega (arith, at-if2 .if2 .left))) in
+    paints (known-below w32 (at-args .args .words .now) (at-shared-slice-known2 .shared-slice-known2 .given)) (c .paint-of .ensures (it .object) (it .body) ∙ sym (asked-part (paintPart (at-args .args .which)) (λ d. paintValue) (Refused 16) it))
 
 pub paint-spec : {M : Type 1} → statement M
 paint-spec =

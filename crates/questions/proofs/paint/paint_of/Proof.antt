@@ -36,34 +36,57 @@ enum-told : tie.Need-enum-told
 enum-told c = search needs
 
 returns : tie.Need-returns
-returns c = λ o row. no-paint (c .before .before .before .before .before .before .before .args .contents .now) (c .before .before .before .before .before .before .before .args .words .now) (c .before .before .before .before .before .before .before .args .version) (c .before .before .before .before .before .before .before .args .row) o (c .before .enum-told .given .1) (no-path (c .before .before .before .before .before .before .before .args .contents .now) (c .before .before .before .before .before .before .before .args .words .now) (c .before .before .before .before .before .before .before .args .version) (c .before .before .before .before .before .before .before .args .row) o row (c .if1 .taken) .0)
+returns c =
+    let at-enum-told = c .before in
+    let at-args = at-enum-told .before .before .before .before .before .before in
+    λ o row. no-paint (at-args .args .contents .now) (at-args .args .words .now) (at-args .args .version) (at-args .args .row) o (at-enum-told .enum-told .given .1) (no-path (at-args .args .contents .now) (at-args .args .words .now) (at-args .args .version) (at-args .args .row) o row (c .if1 .taken) .0)
 
 paint-at-requires : tie.Need-paint-at-requires
-paint-at-requires c κs = painted-holds (c .before .before .before .before .before .before .before .args .contents .now) (c .before .before .before .before .before .before .before .args .words .now) (c .before .before .before .before .before .before .before .args .version) (c .before .before .before .before .before .before .before .args .row) (c .before .before .before .before .before .before .before .pre .short) (line-painted (c .before .before .before .before .before .before .before .args .contents .now) (c .before .before .before .before .before .before .before .args .words .now) (c .before .before .before .before .before .before .before .args .version) (c .before .before .before .before .before .before .before .args .row) (c .before .before .before .before .before .before .before .pre .object) (c .before .before .before .before .before .before .before .pre .body) (c .if1 .left))
+paint-at-requires c κs =
+    let at-args = c .before .before .before .before .before .before .before in
+    painted-holds (at-args .args .contents .now) (at-args .args .words .now) (at-args .args .version) (at-args .args .row) (at-args .pre .short) (line-painted (at-args .args .contents .now) (at-args .args .words .now) (at-args .args .version) (at-args .args .row) (at-args .pre .object) (at-args .pre .body) (c .if1 .left))
 
 returns-2 : tie.Need-returns-2
-returns-2 c = λ o row. paint-answered (c .before .before .before .before .before .before .before .before .args .contents .now) (c .before .before .before .before .before .before .before .before .args .words .now) (c .before .before .before .before .before .before .before .before .args .version) (c .before .before .before .before .before .before .before .before .args .row) o (c .before .before .enum-told .given .1) (line-painted (c .before .before .before .before .before .before .before .before .args .contents .now) (c .before .before .before .before .before .before .before .before .args .words .now) (c .before .before .before .before .before .before .before .before .args .version) (c .before .before .before .before .before .before .before .before .args .row) o row (c .before .if1 .left)) (c .paint-at .ensures)
+returns-2 c =
+    let at-if1 = c .before in
+    let at-enum-told = at-if1 .before in
+    let at-args = at-enum-told .before .before .before .before .before .before in
+    λ o row. paint-answered (at-args .args .contents .now) (at-args .args .words .now) (at-args .args .version) (at-args .args .row) o (at-enum-told .enum-told .given .1) (line-painted (at-args .args .contents .now) (at-args .args .words .now) (at-args .args .version) (at-args .args .row) o row (at-if1 .if1 .left)) (c .paint-at .ensures)
 
 enum-told-2 : tie.Need-enum-told-2
 enum-told-2 c = search needs
 
 returns-3 : tie.Need-returns-3
-returns-3 c = λ o row. no-paint (c .before .before .before .before .before .before .before .args .contents .now) (c .before .before .before .before .before .before .before .args .words .now) (c .before .before .before .before .before .before .before .args .version) (c .before .before .before .before .before .before .before .args .row) o (c .before .enum-told2 .given .1) (no-path (c .before .before .before .before .before .before .before .args .contents .now) (c .before .before .before .before .before .before .before .args .words .now) (c .before .before .before .before .before .before .before .args .version) (c .before .before .before .before .before .before .before .args .row) o row (c .if2 .taken) .1)
+returns-3 c =
+    let at-enum-told2 = c .before in
+    let at-args = at-enum-told2 .before .before .before .before .before .before in
+    λ o row. no-paint (at-args .args .contents .now) (at-args .args .words .now) (at-args .args .version) (at-args .args .row) o (at-enum-told2 .enum-told2 .given .1) (no-path (at-args .args .contents .now) (at-args .args .words .now) (at-args .args .version) (at-args .args .row) o row (c .if2 .taken) .1)
 
 behind-requires : tie.Need-behind-requires
 behind-requires c κs = search needs
 
 paint-at-requires-2 : tie.Need-paint-at-requires-2
-paint-at-requires-2 c κs = painted-holds (c .before .before .before .before .before .before .before .before .args .contents .now) (c .before .before .before .before .before .before .before .before .args .words .now) (c .before .before .before .before .before .before .before .before .args .version) (c .before .before .before .before .before .before .before .before .args .row) (c .before .before .before .before .before .before .before .before .pre .short) (fill-painted (c .before .before .before .before .before .before .before .before .args .contents .now) (c .before .before .before .before .before .before .before .before .args .words .now) (c .before .before .before .before .before .before .before .before .args .version) (c .before .before .before .before .before .before .before .before .args .row) (c .behind .ensures .is) (c .before .before .before .before .before .before .before .before .pre .object) (c .before .before .before .before .before .before .before .before .pre .body) (c .before .if2 .left))
+paint-at-requires-2 c κs =
+    let at-if2 = c .before in
+    let at-args = at-if2 .before .before .before .before .before .before .before in
+    painted-holds (at-args .args .contents .now) (at-args .args .words .now) (at-args .args .version) (at-args .args .row) (at-args .pre .short) (fill-painted (at-args .args .contents .now) (at-args .args .words .now) (at-args .args .version) (at-args .args .row) (c .behind .ensures .is) (at-args .pre .object) (at-args .pre .body) (at-if2 .if2 .left))
 
 returns-4 : tie.Need-returns-4
-returns-4 c = λ o row. paint-answered (c .before .before .before .before .before .before .before .before .before .args .contents .now) (c .before .before .before .before .before .before .before .before .before .args .words .now) (c .before .before .before .before .before .before .before .before .before .args .version) (c .before .before .before .before .before .before .before .before .before .args .row) o (c .before .before .before .enum-told2 .given .1) (fill-painted (c .before .before .before .before .before .before .before .before .before .args .contents .now) (c .before .before .before .before .before .before .before .before .before .args .words .now) (c .before .before .before .before .before .before .before .before .before .args .version) (c .before .before .before .before .before .before .before .before .before .args .row) (c .before .behind .ensures .is) o row (c .before .before .if2 .left)) (c .paint-at2 .ensures)
+returns-4 c =
+    let at-behind = c .before in
+    let at-if2 = at-behind .before in
+    let at-enum-told2 = at-if2 .before in
+    let at-args = at-enum-told2 .before .before .before .before .before .before in
+    λ o row. paint-answered (at-args .args .contents .now) (at-args .args .words .now) (at-args .args .version) (at-args .args .row) o (at-enum-told2 .enum-told2 .given .1) (fill-painted (at-args .args .contents .now) (at-args .args .words .now) (at-args .args .version) (at-args .args .row) (at-behind .behind .ensures .is) o row (at-if2 .if2 .left)) (c .paint-at2 .ensures)
 
 enum-told-3 : tie.Need-enum-told-3
 enum-told-3 c = search needs
 
 returns-5 : tie.Need-returns-5
-returns-5 c = λ o row. no-paint (c .before .before .before .before .before .before .before .args .contents .now) (c .before .before .before .before .before .before .before .args .words .now) (c .before .before .before .before .before .before .before .args .version) (c .before .before .before .before .before .before .before .args .row) o (c .before .enum-told3 .given .1) (no-text (c .before .before .before .before .before .before .before .args .contents .now) (c .before .before .before .before .before .before .before .args .words .now) (c .before .before .before .before .before .before .before .args .version) (c .before .before .before .before .before .before .before .args .row) o row (c .if3 .taken))
+returns-5 c =
+    let at-enum-told3 = c .before in
+    let at-args = at-enum-told3 .before .before .before .before .before .before in
+    λ o row. no-paint (at-args .args .contents .now) (at-args .args .words .now) (at-args .args .version) (at-args .args .row) o (at-enum-told3 .enum-told3 .given .1) (no-text (at-args .args .contents .now) (at-args .args .words .now) (at-args .args .version) (at-args .args .row) o row (c .if3 .taken))
 
 behind-requires-2 : tie.Need-behind-requires-2
 behind-requires-2 c κs = search needs
@@ -72,10 +95,20 @@ behind-requires-3 : tie.Need-behind-requires-3
 behind-requires-3 c κs = search needs
 
 paint-at-requires-3 : tie.Need-paint-at-requires-3
-paint-at-requires-3 c κs = painted-holds (c .before .before .before .before .before .before .before .before .before .args .contents .now) (c .before .before .before .before .before .before .before .before .before .args .words .now) (c .before .before .before .before .before .before .before .before .before .args .version) (c .before .before .before .before .before .before .before .before .before .args .row) (c .before .before .before .before .before .before .before .before .before .pre .short) (text-painted (c .before .before .before .before .before .before .before .before .before .args .contents .now) (c .before .before .before .before .before .before .before .before .before .args .words .now) (c .before .before .before .before .before .before .before .before .before .args .version) (c .before .before .before .before .before .before .before .before .before .args .row) (c .before .behind2 .ensures .is) (c .behind3 .ensures .is) (c .before .before .before .before .before .before .before .before .before .pre .object) (c .before .before .before .before .before .before .before .before .before .pre .body) (c .before .before .if3 .left))
+paint-at-requires-3 c κs =
+    let at-behind2 = c .before in
+    let at-if3 = at-behind2 .before in
+    let at-args = at-if3 .before .before .before .before .before .before .before in
+    painted-holds (at-args .args .contents .now) (at-args .args .words .now) (at-args .args .version) (at-args .args .row) (at-args .pre .short) (text-painted (at-args .args .contents .now) (at-args .args .words .now) (at-args .args .version) (at-args .args .row) (at-behind2 .behind2 .ensures .is) (c .behind3 .ensures .is) (at-args .pre .object) (at-args .pre .body) (at-if3 .if3 .left))
 
 returns-6 : tie.Need-returns-6
-returns-6 c = λ o row. paint-answered (c .before .before .before .before .before .before .before .before .before .before .args .contents .now) (c .before .before .before .before .before .before .before .before .before .before .args .words .now) (c .before .before .before .before .before .before .before .before .before .before .args .version) (c .before .before .before .before .before .before .before .before .before .before .args .row) o (c .before .before .before .before .enum-told3 .given .1) (text-painted (c .before .before .before .before .before .before .before .before .before .before .args .contents .now) (c .before .before .before .before .before .before .before .before .before .before .args .words .now) (c .before .before .before .before .before .before .before .before .before .before .args .version) (c .before .before .before .before .before .before .before .before .before .before .args .row) (c .before .before .behind2 .ensures .is) (c .before .behind3 .ensures .is) o row (c .before .before .before .if3 .left)) (c .paint-at3 .ensures)
+returns-6 c =
+    let at-behind3 = c .before in
+    let at-behind2 = at-behind3 .before in
+    let at-if3 = at-behind2 .before in
+    let at-enum-told3 = at-if3 .before in
+    let at-args = at-enum-told3 .before .before .before .before .before .before in
+    λ o row. paint-answered (at-args .args .contents .now) (at-args .args .words .now) (at-args .args .version) (at-args .args .row) o (at-enum-told3 .enum-told3 .given .1) (text-painted (at-args .args .contents .now) (at-args .args .words .now) (at-args .args .version) (at-args .args .row) (at-behind2 .behind2 .ensures .is) (at-behind3 .behind3 .ensures .is) o row (at-if3 .if3 .left)) (c .paint-at3 .ensures)
 
 pub paint-of-spec : {M : Type 1} → statement M
 paint-of-spec =

@@ -21,7 +21,9 @@ add-behind : tie.Need-add-behind
 add-behind c = search needs
 
 behind-requires : tie.Need-behind-requires
-behind-requires c κs = (omega (arith, paint-inside (c .before .before .before .args .version) (c .before .before .before .pre .here)), c .before .before .before .pre .short)
+behind-requires c κs =
+    let at-args = c .before .before .before in
+    (omega (arith, paint-inside (at-args .args .version) (at-args .pre .here)), at-args .pre .short)
 
 behind-requires-2 : tie.Need-behind-requires-2
 behind-requires-2 c κs = search needs
@@ -30,23 +32,42 @@ add-plain-at : tie.Need-add-plain-at
 add-plain-at c = search needs
 
 plain-at-requires : tie.Need-plain-at-requires
-plain-at-requires c κs = start-is (linear-is (c .before .before .before .before .before .args .version) (c .before .before .before .before .before .pre .value) (c .before .before .before .before .before .pre .here) (c .before .before .if1 .taken)) .here
+plain-at-requires c κs =
+    let at-if1 = c .before .before in
+    let at-args = at-if1 .before .before .before in
+    start-is (linear-is (at-args .args .version) (at-args .pre .value) (at-args .pre .here) (at-if1 .if1 .taken)) .here
 
 plain-at-requires-2 : tie.Need-plain-at-requires-2
-plain-at-requires-2 c κs = end-is (linear-is (c .before .before .before .before .before .before .args .version) (c .before .before .before .before .before .before .pre .value) (c .before .before .before .before .before .before .pre .here) (c .before .before .before .if1 .taken)) (c .before .before .behind .ensures .is) .here
+plain-at-requires-2 c κs =
+    let at-behind = c .before .before in
+    let at-if1 = at-behind .before in
+    let at-args = at-if1 .before .before .before in
+    end-is (linear-is (at-args .args .version) (at-args .pre .value) (at-args .pre .here) (at-if1 .if1 .taken)) (at-behind .behind .ensures .is) .here
 
 mul-t17 : tie.Need-mul-t17
 mul-t17 c = search needs
 
 shared-slice-read-t19 : tie.Need-shared-slice-read-t19
-shared-slice-read-t19 c = last-is (linear-is (c .before .before .before .before .before .before .before .before .args .version) (c .before .before .before .before .before .before .before .before .pre .value) (c .before .before .before .before .before .before .before .before .pre .here) (c .before .before .before .before .before .if1 .taken)) (c .before .before .before .before .behind .ensures .is) (c .before .before .before .behind2 .ensures .is) .0
+shared-slice-read-t19 c =
+    let at-behind2 = c .before .before .before in
+    let at-behind = at-behind2 .before in
+    let at-if1 = at-behind .before in
+    let at-args = at-if1 .before .before .before in
+    last-is (linear-is (at-args .args .version) (at-args .pre .value) (at-args .pre .here) (at-if1 .if1 .taken)) (at-behind .behind .ensures .is) (at-behind2 .behind2 .ensures .is) .0
 
 returns : tie.Need-returns
-returns c = λ p here.
-    let it = linear-is (c .before .before .before .before .before .before .before .before .args .version) p here (c .before .before .before .before .before .if1 .taken) in
-    let start = c .before .before .plain-at .ensures ∙ ap plainValue (start-is it .is) in
-    let end = c .before .plain-at2 .ensures ∙ ap plainValue (end-is it (c .before .before .before .before .behind .ensures .is) .is) in
-    let last = last-is it (c .before .before .before .before .behind .ensures .is) (c .before .before .before .behind2 .ensures .is) .1 in
+returns c =
+    let at-plain-at2 = c .before in
+    let at-plain-at = at-plain-at2 .before in
+    let at-behind2 = at-plain-at .before in
+    let at-behind = at-behind2 .before in
+    let at-if1 = at-behind .before in
+    let at-args = at-if1 .before .before .before in
+    λ p here.
+    let it = linear-is (at-args .args .version) p here (at-if1 .if1 .taken) in
+    let start = at-plain-at .plain-at .ensures ∙ ap plainValue (start-is it .is) in
+    let end = at-plain-at2 .plain-at2 .ensures ∙ ap plainValue (end-is it (at-behind .behind .ensures .is) .is) in
+    let last = last-is it (at-behind .behind .ensures .is) (at-behind2 .behind2 .ensures .is) .1 in
     let same = ap (λ x. paintValue (part x)) (it .is) in
     cc
 
@@ -54,7 +75,9 @@ add-behind-2 : tie.Need-add-behind-2
 add-behind-2 c = search needs
 
 behind-requires-3 : tie.Need-behind-requires-3
-behind-requires-3 c κs = (omega (arith, paint-inside (c .before .before .before .before .args .version) (c .before .before .before .before .pre .here)), c .before .before .before .before .pre .short)
+behind-requires-3 c κs =
+    let at-args = c .before .before .before .before in
+    (omega (arith, paint-inside (at-args .args .version) (at-args .pre .here)), at-args .pre .short)
 
 behind-requires-4 : tie.Need-behind-requires-4
 behind-requires-4 c κs = search needs
@@ -63,32 +86,58 @@ add-plain-at-2 : tie.Need-add-plain-at-2
 add-plain-at-2 c = search needs
 
 plain-at-requires-3 : tie.Need-plain-at-requires-3
-plain-at-requires-3 c κs = start-is (radial-is (c .before .before .before .before .before .before .args .version) (c .before .before .before .before .before .before .pre .value) (c .before .before .before .before .before .before .pre .here) (c .before .before .if2 .taken)) .here
+plain-at-requires-3 c κs =
+    let at-if2 = c .before .before in
+    let at-args = at-if2 .before .before .before .before in
+    start-is (radial-is (at-args .args .version) (at-args .pre .value) (at-args .pre .here) (at-if2 .if2 .taken)) .here
 
 plain-at-requires-4 : tie.Need-plain-at-requires-4
-plain-at-requires-4 c κs = end-is (radial-is (c .before .before .before .before .before .before .before .args .version) (c .before .before .before .before .before .before .before .pre .value) (c .before .before .before .before .before .before .before .pre .here) (c .before .before .before .if2 .taken)) (c .before .before .behind3 .ensures .is) .here
+plain-at-requires-4 c κs =
+    let at-behind3 = c .before .before in
+    let at-if2 = at-behind3 .before in
+    let at-args = at-if2 .before .before .before .before in
+    end-is (radial-is (at-args .args .version) (at-args .pre .value) (at-args .pre .here) (at-if2 .if2 .taken)) (at-behind3 .behind3 .ensures .is) .here
 
 mul-t24 : tie.Need-mul-t24
 mul-t24 c = search needs
 
 shared-slice-read-t26 : tie.Need-shared-slice-read-t26
-shared-slice-read-t26 c = last-is (radial-is (c .before .before .before .before .before .before .before .before .before .args .version) (c .before .before .before .before .before .before .before .before .before .pre .value) (c .before .before .before .before .before .before .before .before .before .pre .here) (c .before .before .before .before .before .if2 .taken)) (c .before .before .before .before .behind3 .ensures .is) (c .before .before .before .behind4 .ensures .is) .0
+shared-slice-read-t26 c =
+    let at-behind4 = c .before .before .before in
+    let at-behind3 = at-behind4 .before in
+    let at-if2 = at-behind3 .before in
+    let at-args = at-if2 .before .before .before .before in
+    last-is (radial-is (at-args .args .version) (at-args .pre .value) (at-args .pre .here) (at-if2 .if2 .taken)) (at-behind3 .behind3 .ensures .is) (at-behind4 .behind4 .ensures .is) .0
 
 returns-2 : tie.Need-returns-2
-returns-2 c = λ p here.
-    let it = radial-is (c .before .before .before .before .before .before .before .before .before .args .version) p here (c .before .before .before .before .before .if2 .taken) in
-    let start = c .before .before .plain-at3 .ensures ∙ ap plainValue (start-is it .is) in
-    let end = c .before .plain-at4 .ensures ∙ ap plainValue (end-is it (c .before .before .before .before .behind3 .ensures .is) .is) in
-    let last = last-is it (c .before .before .before .before .behind3 .ensures .is) (c .before .before .before .behind4 .ensures .is) .1 in
+returns-2 c =
+    let at-plain-at4 = c .before in
+    let at-plain-at3 = at-plain-at4 .before in
+    let at-behind4 = at-plain-at3 .before in
+    let at-behind3 = at-behind4 .before in
+    let at-if2 = at-behind3 .before in
+    let at-args = at-if2 .before .before .before .before in
+    λ p here.
+    let it = radial-is (at-args .args .version) p here (at-if2 .if2 .taken) in
+    let start = at-plain-at3 .plain-at3 .ensures ∙ ap plainValue (start-is it .is) in
+    let end = at-plain-at4 .plain-at4 .ensures ∙ ap plainValue (end-is it (at-behind3 .behind3 .ensures .is) .is) in
+    let last = last-is it (at-behind3 .behind3 .ensures .is) (at-behind4 .behind4 .ensures .is) .1 in
     let same = ap (λ x. paintValue (part x)) (it .is) in
     cc
 
 plain-at-requires-5 : tie.Need-plain-at-requires-5
-plain-at-requires-5 c κs = paint-is-plain (c .before .before .before .before .args .version) (c .before .before .before .before .pre .value) (c .before .before .before .before .pre .here) (c .before .if1 .left) (c .if2 .left) .1 .1 .here
+plain-at-requires-5 c κs =
+    let at-if1 = c .before in
+    let at-args = at-if1 .before .before .before in
+    paint-is-plain (at-args .args .version) (at-args .pre .value) (at-args .pre .here) (at-if1 .if1 .left) (c .if2 .left) .1 .1 .here
 
 returns-3 : tie.Need-returns-3
-returns-3 c = λ p here.
-    let it = paint-is-plain (c .before .before .before .before .before .args .version) p here (c .before .before .if1 .left) (c .before .if2 .left) in
+returns-3 c =
+    let at-if2 = c .before in
+    let at-if1 = at-if2 .before in
+    let at-args = at-if1 .before .before .before in
+    λ p here.
+    let it = paint-is-plain (at-args .args .version) p here (at-if1 .if1 .left) (at-if2 .if2 .left) in
     let one = c .plain-at5 .ensures ∙ ap plainValue (it .1 .1 .is) in
     let same = ap (λ x. paintValue (part x)) (it .1 .0) in
     cc

@@ -19,10 +19,15 @@ add-behind : tie.Need-add-behind
 add-behind c = search needs
 
 behind-requires : tie.Need-behind-requires
-behind-requires c κs = (omega (arith, latex-inside (c .before .before .before .pre .value) (c .before .before .before .pre .here)), c .before .before .before .pre .short)
+behind-requires c κs =
+    let at-pre = c .before .before .before in
+    (omega (arith, latex-inside (at-pre .pre .value) (at-pre .pre .here)), at-pre .pre .short)
 
 chars-at-requires : tie.Need-chars-at-requires
-chars-at-requires c κs = (alternative-inside (c .before .if1 .taken) (c .behind .ensures .is) (c .before .before .before .before .pre .value) (c .before .before .before .before .pre .here), c .before .before .before .before .pre .short)
+chars-at-requires c κs =
+    let at-if1 = c .before in
+    let at-pre = at-if1 .before .before .before in
+    (alternative-inside (at-if1 .if1 .taken) (c .behind .ensures .is) (at-pre .pre .value) (at-pre .pre .here), at-pre .pre .short)
 
 returns : tie.Need-returns
 returns c = alternative-read (c .before .before .if1 .taken) (c .before .behind .ensures .is) (c .chars-at .ensures)

@@ -25,26 +25,55 @@ refused-requires : tie.Need-refused-requires
 refused-requires c κs = search needs
 
 returns : tie.Need-returns
-returns c = texts (known-below w32 (c .before .before .before .before .before .before .args .words .now) (c .before .before .before .before .shared-slice-known2 .given)) (c .refused .ensures ∙ sym (no-table (leafPart textOf) (λ d x. textValue (textPlaces (startIn (c .before .before .before .before .before .before .args .contents .now) (c .before .before .before .before .before .before .args .row)) (d .version) x)) (textValue (noText 16)) (c .before .before .before .check .ensures) (c .before .before .before .before .before .before .args .row) (c .before .if1 .taken)))
+returns c =
+    let at-if1 = c .before in
+    let at-check = at-if1 .before .before in
+    let at-shared-slice-known2 = at-check .before in
+    let at-args = at-shared-slice-known2 .before .before in
+    texts (known-below w32 (at-args .args .words .now) (at-shared-slice-known2 .shared-slice-known2 .given)) (c .refused .ensures ∙ sym (no-table (leafPart textOf) (λ d x. textValue (textPlaces (startIn (at-args .args .contents .now) (at-args .args .row)) (d .version) x)) (textValue (noText 16)) (at-check .check .ensures) (at-args .args .row) (at-if1 .if1 .taken)))
 
 refused-requires-2 : tie.Need-refused-requires-2
 refused-requires-2 c κs = search needs
 
 returns-2 : tie.Need-returns-2
-returns-2 c = texts (known-below w32 (c .before .before .before .before .before .before .before .before .args .words .now) (c .before .before .before .before .before .before .shared-slice-known2 .given)) (no-such-row (leafPart textOf) (λ d x. textValue (textPlaces (startIn (c .before .before .before .before .before .before .before .before .args .contents .now) (c .before .before .before .before .before .before .before .before .args .row)) (d .version) x)) (textValue (noText 16)) (c .before .before .before .before .before .check .ensures) (c .before .before .before .before .before .before .before .before .args .row) (c .before .before .before .if1 .left) (c .before .if2 .taken) (λ d. c .refused2 .ensures))
+returns-2 c =
+    let at-if2 = c .before in
+    let at-if1 = at-if2 .before .before in
+    let at-check = at-if1 .before .before in
+    let at-shared-slice-known2 = at-check .before in
+    let at-args = at-shared-slice-known2 .before .before in
+    texts (known-below w32 (at-args .args .words .now) (at-shared-slice-known2 .shared-slice-known2 .given)) (no-such-row (leafPart textOf) (λ d x. textValue (textPlaces (startIn (at-args .args .contents .now) (at-args .args .row)) (d .version) x)) (textValue (noText 16)) (at-check .check .ensures) (at-args .args .row) (at-if1 .if1 .left) (at-if2 .if2 .taken) (λ d. c .refused2 .ensures))
 
 shared-slice-read-version : tie.Need-shared-slice-read-version
-shared-slice-read-version c = (asked (c .before .before .before .before .before .check .ensures) (c .before .before .before .before .before .before .before .before .args .row) (c .before .before .before .if1 .left) (known-below w32 (c .before .before .before .before .before .before .before .before .args .words .now) (c .before .before .before .before .before .before .shared-slice-known2 .given)) (omega (arith, c .before .if2 .left))) .begun
+shared-slice-read-version c =
+    let at-if2 = c .before in
+    let at-if1 = at-if2 .before .before in
+    let at-check = at-if1 .before .before in
+    let at-shared-slice-known2 = at-check .before in
+    let at-args = at-shared-slice-known2 .before .before in
+    (asked (at-check .check .ensures) (at-args .args .row) (at-if1 .if1 .left) (known-below w32 (at-args .args .words .now) (at-shared-slice-known2 .shared-slice-known2 .given)) (omega (arith, at-if2 .if2 .left))) .begun
 
 text-of-requires : tie.Need-text-of-requires
-text-of-requires c κs = (asked (c .before .before .before .before .before .check .ensures) (c .before .before .before .before .before .before .before .before .args .row) (c .before .before .before .if1 .left) (known-below w32 (c .before .before .before .before .before .before .before .before .args .words .now) (c .before .before .before .before .before .before .shared-slice-known2 .given)) (omega (arith, c .before .if2 .left))) .has
+text-of-requires c κs =
+    let at-if2 = c .before in
+    let at-if1 = at-if2 .before .before in
+    let at-check = at-if1 .before .before in
+    let at-shared-slice-known2 = at-check .before in
+    let at-args = at-shared-slice-known2 .before .before in
+    (asked (at-check .check .ensures) (at-args .args .row) (at-if1 .if1 .left) (known-below w32 (at-args .args .words .now) (at-shared-slice-known2 .shared-slice-known2 .given)) (omega (arith, at-if2 .if2 .left))) .has
 
 returns-3 : tie.Need-returns-3
-returns-3 c = let it = (asked (c .before .before .before .before .before .before .check .ensures) (c .before .before .before .before .before .before .before .before .before .args .row) (c .before .before .before .before .if1 .left) (known-below w32 (c .before .before .before .before .before .before .before .before .before .args .words .now) (c .before .before .before .before .before .before .before .shared-slice-known2 .given)) (omega (arith, c .before .before .if2 .left))) in
-    texts (known-below w32 (c .before .before .before .before .before .before .before .before .before .args .words .now) (c .before .before .before .before .before .before .before .shared-slice-known2 .given))
+returns-3 c =
+    let at-if2 = c .before .before in
+    let at-if1 = at-if2 .before .before in
+    let at-check = at-if1 .before .before in
+    let at-shared-slice-known2 = at-check .before in
+    let at-args = at-shared-slice-known2 .before .before in
+    let it = (asked (at-check .check .ensures) (at-args .args .row) (at-if1 .if1 .left) (known-below w32 (at-args .args .words .now) (at-shared-slice-known2 .shared-slice-known2 .given)) (omega (arith, at-if2 .if2 .left))) in
+    texts (known-below w32 (at-args .args .words .now) (at-shared-slice-known2 .shared-slice-known2 .given))
     (c .text-of .ensures (it .object) (it .body)
-    ∙ ap (λ v. textValue (textPlaces (startIn (c .before .before .before .before .before .before .before .before .before .args .contents .now) (c .before .before .before .before .before .before .before .before .before .args .row)) v (orRefusal 7 (leafPart textOf (it .object))))) (it .version-is)
-    ∙ sym (asked-part (leafPart textOf) (λ d x. textValue (textPlaces (startIn (c .before .before .before .before .before .before .before .before .before .args .contents .now) (c .before .before .before .before .before .before .before .before .before .args .row)) (d .version) x)) (textValue (noText 16)) it))
+    ∙ ap (λ v. textValue (textPlaces (startIn (at-args .args .contents .now) (at-args .args .row)) v (orRefusal 7 (leafPart textOf (it .object))))) (it .version-is)
+    ∙ sym (asked-part (leafPart textOf) (λ d x. textValue (textPlaces (startIn (at-args .args .contents .now) (at-args .args .row)) (d .version) x)) (textValue (noText 16)) it))
 
 pub text-spec : {M : Type 1} → statement M
 text-spec =

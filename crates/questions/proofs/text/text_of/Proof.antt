@@ -39,7 +39,10 @@ refused-requires : tie.Need-refused-requires
 refused-requires c κs = search needs
 
 returns : tie.Need-returns
-returns c = λ o row. c .refused .ensures ∙ no-text-answered (c .before .before .before .before .before .before .args .contents .now) (c .before .before .before .before .before .before .args .words .now) (c .before .before .before .before .before .before .args .version) (c .before .before .before .before .before .before .args .row) o row (c .before .if1 .taken)
+returns c =
+    let at-if1 = c .before in
+    let at-args = at-if1 .before .before .before .before .before in
+    λ o row. c .refused .ensures ∙ no-text-answered (at-args .args .contents .now) (at-args .args .words .now) (at-args .args .version) (at-args .args .row) o row (at-if1 .if1 .taken)
 
 behind-requires : tie.Need-behind-requires
 behind-requires c κs = search needs
@@ -51,13 +54,30 @@ behind-requires-3 : tie.Need-behind-requires-3
 behind-requires-3 c κs = search needs
 
 alternative-chars-requires : tie.Need-alternative-chars-requires
-alternative-chars-requires c κs = latex-holds (c .before .before .before .before .before .before .before .before .args .contents .now) (c .before .before .before .before .before .before .before .before .args .words .now) (c .before .before .before .before .before .before .before .before .args .version) (c .before .before .before .before .before .before .before .before .args .row) (c .before .before .before .before .before .before .before .before .pre .object) (c .before .before .before .before .before .before .before .before .pre .body) (c .before .before .before .if1 .left) (c .before .before .behind .ensures .is) (c .before .before .before .before .before .before .before .before .pre .short)
+alternative-chars-requires c κs =
+    let at-behind = c .before .before in
+    let at-if1 = at-behind .before in
+    let at-args = at-if1 .before .before .before .before .before in
+    latex-holds (at-args .args .contents .now) (at-args .args .words .now) (at-args .args .version) (at-args .args .row) (at-args .pre .object) (at-args .pre .body) (at-if1 .if1 .left) (at-behind .behind .ensures .is) (at-args .pre .short)
 
 chars-at-requires : tie.Need-chars-at-requires
-chars-at-requires c κs = (chars-inside (c .before .before .before .before .before .before .before .before .before .args .contents .now) (c .before .before .before .before .before .before .before .before .before .args .words .now) (c .before .before .before .before .before .before .before .before .before .args .version) (c .before .before .before .before .before .before .before .before .before .args .row) (c .before .before .before .before .before .before .before .before .before .pre .object) (c .before .before .before .before .before .before .before .before .before .pre .body) (c .before .before .before .before .if1 .left) (c .before .before .before .behind .ensures .is) (c .before .before .behind2 .ensures .is) (c .before .behind3 .ensures .is), c .before .before .before .before .before .before .before .before .before .pre .short)
+chars-at-requires c κs =
+    let at-behind3 = c .before in
+    let at-behind2 = at-behind3 .before in
+    let at-behind = at-behind2 .before in
+    let at-if1 = at-behind .before in
+    let at-args = at-if1 .before .before .before .before .before in
+    (chars-inside (at-args .args .contents .now) (at-args .args .words .now) (at-args .args .version) (at-args .args .row) (at-args .pre .object) (at-args .pre .body) (at-if1 .if1 .left) (at-behind .behind .ensures .is) (at-behind2 .behind2 .ensures .is) (at-behind3 .behind3 .ensures .is), at-args .pre .short)
 
 returns-2 : tie.Need-returns-2
-returns-2 c = λ o row. text-answered (c .before .before .before .before .before .before .before .before .before .before .args .contents .now) (c .before .before .before .before .before .before .before .before .before .before .args .words .now) (c .before .before .before .before .before .before .before .before .before .before .args .version) (c .before .before .before .before .before .before .before .before .before .before .args .row) o row (c .before .before .before .before .before .if1 .left) (c .before .before .before .before .behind .ensures .is) (c .before .before .before .behind2 .ensures .is) (c .before .before .behind3 .ensures .is) (c .before .alternative-chars .ensures) (c .chars-at .ensures)
+returns-2 c =
+    let at-alternative-chars = c .before in
+    let at-behind3 = at-alternative-chars .before in
+    let at-behind2 = at-behind3 .before in
+    let at-behind = at-behind2 .before in
+    let at-if1 = at-behind .before in
+    let at-args = at-if1 .before .before .before .before .before in
+    λ o row. text-answered (at-args .args .contents .now) (at-args .args .words .now) (at-args .args .version) (at-args .args .row) o row (at-if1 .if1 .left) (at-behind .behind .ensures .is) (at-behind2 .behind2 .ensures .is) (at-behind3 .behind3 .ensures .is) (at-alternative-chars .alternative-chars .ensures) (c .chars-at .ensures)
 
 pub text-of-spec : {M : Type 1} → statement M
 text-of-spec =

@@ -18,7 +18,11 @@ no-table-requires c κs = search needs
 
 -- src/answers.rt:23:9
 returns : tie.Need-returns
-returns c = long-refused (c .before .before .before .before .args .contents .now) (c .before .before .before .before .args .words .now) (known-below w32 (c .before .before .before .before .args .words .now) (c .before .before .shared-slice-known2 .given)) (inl (c .before .if1 .taken)) (c .no-table .ensures)
+returns c =
+    let at-if1 = c .before in
+    let at-shared-slice-known2 = at-if1 .before in
+    let at-args = at-shared-slice-known2 .before .before in
+    long-refused (at-args .args .contents .now) (at-args .args .words .now) (known-below w32 (at-args .args .words .now) (at-shared-slice-known2 .shared-slice-known2 .given)) (inl (at-if1 .if1 .taken)) (c .no-table .ensures)
 
 -- src/answers.rt:26:9
 no-table-requires-2 : tie.Need-no-table-requires-2
@@ -26,7 +30,11 @@ no-table-requires-2 c κs = search needs
 
 -- src/answers.rt:26:9
 returns-2 : tie.Need-returns-2
-returns-2 c = long-refused (c .before .before .before .before .before .args .contents .now) (c .before .before .before .before .before .args .words .now) (known-below w32 (c .before .before .before .before .before .args .words .now) (c .before .before .before .shared-slice-known2 .given)) (inr (c .before .if2 .taken)) (c .no-table2 .ensures)
+returns-2 c =
+    let at-if2 = c .before in
+    let at-shared-slice-known2 = at-if2 .before .before in
+    let at-args = at-shared-slice-known2 .before .before in
+    long-refused (at-args .args .contents .now) (at-args .args .words .now) (known-below w32 (at-args .args .words .now) (at-shared-slice-known2 .shared-slice-known2 .given)) (inr (at-if2 .if2 .taken)) (c .no-table2 .ensures)
 
 -- src/answers.rt:29:46
 slice-aggregate-walk-table : tie.Need-slice-aggregate-walk-table
@@ -42,23 +50,48 @@ no-table-requires-3 c κs = search needs
 
 -- src/answers.rt:32:9
 returns-3 : tie.Need-returns-3
-returns-3 c = walk-refused (c .before .before .before .before .before .before .before .before .before .before .before .args .contents .now) (c .before .before .before .before .before .before .before .before .before .before .before .args .words .now) (known-below w32 (c .before .before .before .before .before .before .before .before .before .before .before .args .words .now) (c .before .before .before .before .before .before .before .before .before .shared-slice-known2 .given)) (c .before .before .before .before .before .walk-table .ensures) (c .before .if3 .taken) (c .no-table3 .ensures)
+returns-3 c =
+    let at-if3 = c .before in
+    let at-walk-table = at-if3 .before .before .before .before in
+    let at-shared-slice-known2 = at-walk-table .before .before .before .before in
+    let at-args = at-shared-slice-known2 .before .before in
+    walk-refused (at-args .args .contents .now) (at-args .args .words .now) (known-below w32 (at-args .args .words .now) (at-shared-slice-known2 .shared-slice-known2 .given)) (at-walk-table .walk-table .ensures) (at-if3 .if3 .taken) (c .no-table3 .ensures)
 
 -- src/answers.rt:36:17
 cast-t10 : tie.Need-cast-t10
-cast-t10 c = let small = walk-small (c .before .before .before .before .before .before .before .before .before .before .before .args .contents .now) (c .before .before .before .before .before .before .before .before .before .before .before .args .words .now) (known-below w32 (c .before .before .before .before .before .before .before .before .before .before .before .args .words .now) (c .before .before .before .before .before .before .before .before .before .shared-slice-known2 .given)) (c .before .before .before .before .before .walk-table .ensures) (c .before .if3 .left) in omega (arith, small .0, small .1, small .2)
+cast-t10 c =
+    let at-if3 = c .before in
+    let at-walk-table = at-if3 .before .before .before .before in
+    let at-shared-slice-known2 = at-walk-table .before .before .before .before in
+    let at-args = at-shared-slice-known2 .before .before in
+    let small = walk-small (at-args .args .contents .now) (at-args .args .words .now) (known-below w32 (at-args .args .words .now) (at-shared-slice-known2 .shared-slice-known2 .given)) (at-walk-table .walk-table .ensures) (at-if3 .if3 .left) in omega (arith, small .0, small .1, small .2)
 
 -- src/answers.rt:37:15
 cast-t11 : tie.Need-cast-t11
-cast-t11 c = let small = walk-small (c .before .before .before .before .before .before .before .before .before .before .before .before .args .contents .now) (c .before .before .before .before .before .before .before .before .before .before .before .before .args .words .now) (known-below w32 (c .before .before .before .before .before .before .before .before .before .before .before .before .args .words .now) (c .before .before .before .before .before .before .before .before .before .before .shared-slice-known2 .given)) (c .before .before .before .before .before .before .walk-table .ensures) (c .before .before .if3 .left) in omega (arith, small .0, small .1, small .2)
+cast-t11 c =
+    let at-if3 = c .before .before in
+    let at-walk-table = at-if3 .before .before .before .before in
+    let at-shared-slice-known2 = at-walk-table .before .before .before .before in
+    let at-args = at-shared-slice-known2 .before .before in
+    let small = walk-small (at-args .args .contents .now) (at-args .args .words .now) (known-below w32 (at-args .args .words .now) (at-shared-slice-known2 .shared-slice-known2 .given)) (at-walk-table .walk-table .ensures) (at-if3 .if3 .left) in omega (arith, small .0, small .1, small .2)
 
 -- src/answers.rt:38:16
 cast-t12 : tie.Need-cast-t12
-cast-t12 c = let small = walk-small (c .before .before .before .before .before .before .before .before .before .before .before .before .before .args .contents .now) (c .before .before .before .before .before .before .before .before .before .before .before .before .before .args .words .now) (known-below w32 (c .before .before .before .before .before .before .before .before .before .before .before .before .before .args .words .now) (c .before .before .before .before .before .before .before .before .before .before .before .shared-slice-known2 .given)) (c .before .before .before .before .before .before .before .walk-table .ensures) (c .before .before .before .if3 .left) in omega (arith, small .0, small .1, small .2)
+cast-t12 c =
+    let at-if3 = c .before .before .before in
+    let at-walk-table = at-if3 .before .before .before .before in
+    let at-shared-slice-known2 = at-walk-table .before .before .before .before in
+    let at-args = at-shared-slice-known2 .before .before in
+    let small = walk-small (at-args .args .contents .now) (at-args .args .words .now) (known-below w32 (at-args .args .words .now) (at-shared-slice-known2 .shared-slice-known2 .given)) (at-walk-table .walk-table .ensures) (at-if3 .if3 .left) in omega (arith, small .0, small .1, small .2)
 
 -- src/answers.rt:19:1
 returns-4 : tie.Need-returns-4
-returns-4 c = walk-checked (c .before .before .before .before .before .before .before .before .before .before .before .before .before .args .contents .now) (c .before .before .before .before .before .before .before .before .before .before .before .before .before .args .words .now) (known-below w32 (c .before .before .before .before .before .before .before .before .before .before .before .before .before .args .words .now) (c .before .before .before .before .before .before .before .before .before .before .before .shared-slice-known2 .given)) (c .before .before .before .before .before .before .before .walk-table .ensures) (c .before .before .before .if3 .left)
+returns-4 c =
+    let at-if3 = c .before .before .before in
+    let at-walk-table = at-if3 .before .before .before .before in
+    let at-shared-slice-known2 = at-walk-table .before .before .before .before in
+    let at-args = at-shared-slice-known2 .before .before in
+    walk-checked (at-args .args .contents .now) (at-args .args .words .now) (known-below w32 (at-args .args .words .now) (at-shared-slice-known2 .shared-slice-known2 .given)) (at-walk-table .walk-table .ensures) (at-if3 .if3 .left)
 
 pub check-spec : {M : Type 1} → statement M
 check-spec =

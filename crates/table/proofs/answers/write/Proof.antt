@@ -17,7 +17,11 @@ check-requires c κs = search needs
 
 -- src/answers.rt:48:9
 returns : tie.Need-returns
-returns c = write-refused (c .before .before .before .before .before .before .args .contents .now) (c .before .before .before .before .before .before .args .words .now) (known-below w32 (c .before .before .before .before .before .before .args .words .now) (c .before .before .before .before .shared-slice-known2 .given)) (c .before .before .check .ensures) (c .before .before .before .before .before .before .args .file .now) (c .if1 .taken)
+returns c =
+    let at-check = c .before .before in
+    let at-shared-slice-known2 = at-check .before .before in
+    let at-args = at-shared-slice-known2 .before .before in
+    write-refused (at-args .args .contents .now) (at-args .args .words .now) (known-below w32 (at-args .args .words .now) (at-shared-slice-known2 .shared-slice-known2 .given)) (at-check .check .ensures) (at-args .args .file .now) (c .if1 .taken)
 
 -- src/answers.rt:51:21
 cast-if2 : tie.Need-cast-if2
@@ -25,11 +29,21 @@ cast-if2 c = search needs
 
 -- src/answers.rt:52:9
 returns-2 : tie.Need-returns-2
-returns-2 c = write-short (c .before .before .before .before .before .before .before .args .contents .now) (c .before .before .before .before .before .before .before .args .words .now) (known-below w32 (c .before .before .before .before .before .before .before .args .words .now) (c .before .before .before .before .before .shared-slice-known2 .given)) (c .before .before .before .check .ensures) (c .before .if1 .left) (c .before .before .before .before .before .before .before .args .file .now) (c .if2 .taken)
+returns-2 c =
+    let at-if1 = c .before in
+    let at-check = at-if1 .before .before in
+    let at-shared-slice-known2 = at-check .before .before in
+    let at-args = at-shared-slice-known2 .before .before in
+    write-short (at-args .args .contents .now) (at-args .args .words .now) (known-below w32 (at-args .args .words .now) (at-shared-slice-known2 .shared-slice-known2 .given)) (at-check .check .ensures) (at-if1 .if1 .left) (at-args .args .file .now) (c .if2 .taken)
 
 -- src/answers.rt:59:13
 walk-table-requires : tie.Need-walk-table-requires
-walk-table-requires c κs = within-limits (c .before .before .before .before .before .before .before .before .args .contents .now) (c .before .before .before .before .before .before .before .before .args .words .now) (known-below w32 (c .before .before .before .before .before .before .before .before .args .words .now) (c .before .before .before .before .before .before .shared-slice-known2 .given)) (c .before .before .before .before .check .ensures) (c .before .before .if1 .left)
+walk-table-requires c κs =
+    let at-if1 = c .before .before in
+    let at-check = at-if1 .before .before in
+    let at-shared-slice-known2 = at-check .before .before in
+    let at-args = at-shared-slice-known2 .before .before in
+    within-limits (at-args .args .contents .now) (at-args .args .words .now) (known-below w32 (at-args .args .words .now) (at-shared-slice-known2 .shared-slice-known2 .given)) (at-check .check .ensures) (at-if1 .if1 .left)
 
 -- src/answers.rt:43:1
 same-length : tie.Need-same-length
@@ -37,7 +51,14 @@ same-length c = search needs
 
 -- src/answers.rt:43:1
 returns-3 : tie.Need-returns-3
-returns-3 c = write-whole (c .before .before .before .before .before .before .before .before .before .before .before .args .contents .now) (c .before .before .before .before .before .before .before .before .before .before .before .args .words .now) (known-below w32 (c .before .before .before .before .before .before .before .before .before .before .before .args .words .now) (c .before .before .before .before .before .before .before .before .before .shared-slice-known2 .given)) (c .before .before .before .before .before .before .before .check .ensures) (c .before .before .before .before .before .if1 .left) (λ short. omega (arith, short, c .before .before .before .before .if2 .left)) (c .before .before .walk-table .ensures)
+returns-3 c =
+    let at-walk-table = c .before .before in
+    let at-if2 = at-walk-table .before .before in
+    let at-if1 = at-if2 .before in
+    let at-check = at-if1 .before .before in
+    let at-shared-slice-known2 = at-check .before .before in
+    let at-args = at-shared-slice-known2 .before .before in
+    write-whole (at-args .args .contents .now) (at-args .args .words .now) (known-below w32 (at-args .args .words .now) (at-shared-slice-known2 .shared-slice-known2 .given)) (at-check .check .ensures) (at-if1 .if1 .left) (λ short. omega (arith, short, at-if2 .if2 .left)) (at-walk-table .walk-table .ensures)
 
 pub write-spec : {M : Type 1} → statement M
 write-spec =

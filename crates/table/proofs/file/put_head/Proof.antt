@@ -42,7 +42,14 @@ same-length c = search needs
 
 -- src/file.rt:16:1
 returns : tie.Need-returns
-returns c = same-written (ap₂ (λ a b. a ++ (digits 256 4 3 ++ b)) six-jdr (six-version (c .before .before .before .before .before .before .before .before .before .before .before .before .before .before .before .before .before .before .before .before .before .args .version) (c .before .before .before .before .before .before .before .before .before .before .before .before .before .before .before .before .before .before .before .before .before .pre))) (same-written (sym (append-assoc (digits 256 4 0x004A_0044) (digits 256 2 0x52) (digits 256 4 3 ++ (digits 256 4 0x0031_002E ++ digits 256 2 (48 + c .before .before .before .before .before .before .before .before .before .before .before .before .before .before .before .before .before .before .before .before .before .args .version))))) (both-written refl (put-written (digits 256 4 0x004A_0044) (c .before .before .before .before .before .before .before .before .before .before .before .before .before .before .before .before .before .before .write-value .ensures)) (both-written refl (put-written (digits 256 2 0x52) (c .before .before .before .before .before .before .before .before .before .before .before .before .before .before .write-value2 .ensures)) (both-written refl (put-written (digits 256 4 3) (c .before .before .before .before .before .before .before .before .before .before .write-value3 .ensures)) (both-written refl (put-written (digits 256 4 0x0031_002E) (c .before .before .before .before .before .before .write-value4 .ensures)) (put-written (digits 256 2 (48 + c .before .before .before .before .before .before .before .before .before .before .before .before .before .before .before .before .before .before .before .before .before .args .version)) (c .before .before .write-value5 .ensures)))))))
+returns c =
+    let at-write-value5 = c .before .before in
+    let at-write-value4 = at-write-value5 .before .before .before .before in
+    let at-write-value3 = at-write-value4 .before .before .before .before in
+    let at-write-value2 = at-write-value3 .before .before .before .before in
+    let at-write-value = at-write-value2 .before .before .before .before in
+    let at-args = at-write-value .before .before .before in
+    same-written (ap₂ (λ a b. a ++ (digits 256 4 3 ++ b)) six-jdr (six-version (at-args .args .version) (at-args .pre))) (same-written (sym (append-assoc (digits 256 4 0x004A_0044) (digits 256 2 0x52) (digits 256 4 3 ++ (digits 256 4 0x0031_002E ++ digits 256 2 (48 + at-args .args .version))))) (both-written refl (put-written (digits 256 4 0x004A_0044) (at-write-value .write-value .ensures)) (both-written refl (put-written (digits 256 2 0x52) (at-write-value2 .write-value2 .ensures)) (both-written refl (put-written (digits 256 4 3) (at-write-value3 .write-value3 .ensures)) (both-written refl (put-written (digits 256 4 0x0031_002E) (at-write-value4 .write-value4 .ensures)) (put-written (digits 256 2 (48 + at-args .args .version)) (at-write-value5 .write-value5 .ensures)))))))
 
 pub put-head-spec : {M : Type 1} → statement M
 put-head-spec =

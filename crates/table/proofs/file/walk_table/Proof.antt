@@ -32,15 +32,30 @@ lost-requires c κs = search needs
 
 -- src/file.rt:44:9
 returns : tie.Need-returns
-returns c = table-lost (version-unfound (c .before .before .before .before .before .before .before .before .args .contents .now) (c .before .before .before .before .before .before .before .before .args .words .now) (record { number = 0; at = 0; to = 0 }) refl (body-unfound (field (integerIn 0 lastMinor)) (known-below w32 (c .before .before .before .before .before .before .before .before .args .words .now) (c .before .before .before .before .before .before .shared-slice-known2 .given)) refl (omega arith) (field-laid (c .before .before .before .before .version-word .ensures .asked)) (c .before .if1 .taken))) (c .lost .ensures) refl
+returns c =
+    let at-if1 = c .before in
+    let at-version-word = at-if1 .before .before .before in
+    let at-shared-slice-known2 = at-version-word .before .before in
+    let at-args = at-shared-slice-known2 .before .before in
+    table-lost (version-unfound (at-args .args .contents .now) (at-args .args .words .now) (record { number = 0; at = 0; to = 0 }) refl (body-unfound (field (integerIn 0 lastMinor)) (known-below w32 (at-args .args .words .now) (at-shared-slice-known2 .shared-slice-known2 .given)) refl (omega arith) (field-laid (at-version-word .version-word .ensures .asked)) (at-if1 .if1 .taken))) (c .lost .ensures) refl
 
 -- src/file.rt:46:5
 put-head-requires : tie.Need-put-head-requires
-put-head-requires c κs = let told = field-found (integerIn 0 lastMinor) (known-below w32 (c .before .before .before .before .before .before .before .before .args .words .now) (c .before .before .before .before .before .before .shared-slice-known2 .given)) refl (omega arith) (c .before .before .before .before .version-word .ensures .asked) (c .before .if1 .left) in version-small (c .before .before .before .before .before .before .before .before .args .contents .now) (c .before .before .before .before .before .before .before .before .args .words .now) (record { number = 0; at = 0; to = 0 }) refl told
+put-head-requires c κs =
+    let at-if1 = c .before in
+    let at-version-word = at-if1 .before .before .before in
+    let at-shared-slice-known2 = at-version-word .before .before in
+    let at-args = at-shared-slice-known2 .before .before in
+    let told = field-found (integerIn 0 lastMinor) (known-below w32 (at-args .args .words .now) (at-shared-slice-known2 .shared-slice-known2 .given)) refl (omega arith) (at-version-word .version-word .ensures .asked) (at-if1 .if1 .left) in version-small (at-args .args .contents .now) (at-args .args .words .now) (record { number = 0; at = 0; to = 0 }) refl told
 
 -- src/file.rt:55:9
 cast-settings-words : tie.Need-cast-settings-words
-cast-settings-words c = let told = field-found (integerIn 0 lastMinor) (known-below w32 (c .before .before .before .before .before .before .before .before .before .before .before .before .args .words .now) (c .before .before .before .before .before .before .before .before .before .before .shared-slice-known2 .given)) refl (omega arith) (c .before .before .before .before .before .before .before .before .version-word .ensures .asked) (c .before .before .before .before .before .if1 .left) in omega (arith, version-small (c .before .before .before .before .before .before .before .before .before .before .before .before .args .contents .now) (c .before .before .before .before .before .before .before .before .before .before .before .before .args .words .now) (record { number = 0; at = 0; to = 0 }) refl told)
+cast-settings-words c =
+    let at-if1 = c .before .before .before .before .before in
+    let at-version-word = at-if1 .before .before .before in
+    let at-shared-slice-known2 = at-version-word .before .before in
+    let at-args = at-shared-slice-known2 .before .before in
+    let told = field-found (integerIn 0 lastMinor) (known-below w32 (at-args .args .words .now) (at-shared-slice-known2 .shared-slice-known2 .given)) refl (omega arith) (at-version-word .version-word .ensures .asked) (at-if1 .if1 .left) in omega (arith, version-small (at-args .args .contents .now) (at-args .args .words .now) (record { number = 0; at = 0; to = 0 }) refl told)
 
 -- src/file.rt:47:9
 settings-words-requires : tie.Need-settings-words-requires
@@ -56,7 +71,16 @@ same-length c = search needs
 
 -- src/file.rt:58:9
 returns-2 : tie.Need-returns-2
-returns-2 c = let told = field-found (integerIn 0 lastMinor) (known-below w32 (c .before .before .before .before .before .before .before .before .before .before .before .before .before .before .before .before .before .before .args .words .now) (c .before .before .before .before .before .before .before .before .before .before .before .before .before .before .before .before .shared-slice-known2 .given)) refl (omega arith) (c .before .before .before .before .before .before .before .before .before .before .before .before .before .before .version-word .ensures .asked) (c .before .before .before .before .before .before .before .before .before .before .before .if1 .left) in table-lost (settings-unfound (c .before .before .before .before .before .before .before .before .before .before .before .before .before .before .before .before .before .before .args .contents .now) (c .before .before .before .before .before .before .before .before .before .before .before .before .before .before .before .before .before .before .args .words .now) (record { number = 0; at = 0; to = 0 }) refl told (record { number = 0; at = c .before .before .before .before .before .before .before .before .before .before .before .before .before .before .version-word .result .pass .at; to = 16 }) refl (body-unfound (settings (c .before .before .before .before .before .before .before .before .before .before .before .before .before .before .version-word .result .value)) (known-below w32 (c .before .before .before .before .before .before .before .before .before .before .before .before .before .before .before .before .before .before .args .words .now) (c .before .before .before .before .before .before .before .before .before .before .before .before .before .before .before .before .shared-slice-known2 .given)) refl (told .inside) (c .before .before .before .before .before .settings-words .ensures) (c .before .if2 .taken))) (c .lost2 .ensures) (c .before .before .before .before .out2 .given ∙ c .before .before .before .before .before .before .before .before .out .given)
+returns-2 c =
+    let at-if2 = c .before in
+    let at-out2 = at-if2 .before .before .before in
+    let at-settings-words = at-out2 .before in
+    let at-out = at-settings-words .before .before .before in
+    let at-if1 = at-out .before .before .before in
+    let at-version-word = at-if1 .before .before .before in
+    let at-shared-slice-known2 = at-version-word .before .before in
+    let at-args = at-shared-slice-known2 .before .before in
+    let told = field-found (integerIn 0 lastMinor) (known-below w32 (at-args .args .words .now) (at-shared-slice-known2 .shared-slice-known2 .given)) refl (omega arith) (at-version-word .version-word .ensures .asked) (at-if1 .if1 .left) in table-lost (settings-unfound (at-args .args .contents .now) (at-args .args .words .now) (record { number = 0; at = 0; to = 0 }) refl told (record { number = 0; at = at-version-word .version-word .result .pass .at; to = 16 }) refl (body-unfound (settings (at-version-word .version-word .result .value)) (known-below w32 (at-args .args .words .now) (at-shared-slice-known2 .shared-slice-known2 .given)) refl (told .inside) (at-settings-words .settings-words .ensures) (at-if2 .if2 .taken))) (c .lost2 .ensures) (at-out2 .out2 .given ∙ at-out .out .given)
 
 -- src/file.rt:61:9
 lost-requires-3 : tie.Need-lost-requires-3
@@ -68,15 +92,38 @@ same-length-2 c = search needs
 
 -- src/file.rt:61:9
 returns-3 : tie.Need-returns-3
-returns-3 c = let told = field-found (integerIn 0 lastMinor) (known-below w32 (c .before .before .before .before .before .before .before .before .before .before .before .before .before .before .before .before .before .before .before .args .words .now) (c .before .before .before .before .before .before .before .before .before .before .before .before .before .before .before .before .before .shared-slice-known2 .given)) refl (omega arith) (c .before .before .before .before .before .before .before .before .before .before .before .before .before .before .before .version-word .ensures .asked) (c .before .before .before .before .before .before .before .before .before .before .before .before .if1 .left) in let settled = body-found (settings (c .before .before .before .before .before .before .before .before .before .before .before .before .before .before .before .version-word .result .value)) (known-below w32 (c .before .before .before .before .before .before .before .before .before .before .before .before .before .before .before .before .before .before .before .args .words .now) (c .before .before .before .before .before .before .before .before .before .before .before .before .before .before .before .before .before .shared-slice-known2 .given)) refl (told .inside) (c .before .before .before .before .before .before .settings-words .ensures) (c .before .before .if2 .left) in table-lost (outer-short (c .before .before .before .before .before .before .before .before .before .before .before .before .before .before .before .before .before .before .before .args .contents .now) (c .before .before .before .before .before .before .before .before .before .before .before .before .before .before .before .before .before .before .before .args .words .now) (record { number = 0; at = 0; to = 0 }) refl told (record { number = 0; at = c .before .before .before .before .before .before .before .before .before .before .before .before .before .before .before .version-word .result .pass .at; to = 16 }) refl (settled .1) (c .before .if3 .taken)) (c .lost3 .ensures) (c .before .before .before .before .before .out2 .given ∙ c .before .before .before .before .before .before .before .before .before .out .given)
+returns-3 c =
+    let at-if3 = c .before in
+    let at-if2 = at-if3 .before in
+    let at-out2 = at-if2 .before .before .before in
+    let at-settings-words = at-out2 .before in
+    let at-out = at-settings-words .before .before .before in
+    let at-if1 = at-out .before .before .before in
+    let at-version-word = at-if1 .before .before .before in
+    let at-shared-slice-known2 = at-version-word .before .before in
+    let at-args = at-shared-slice-known2 .before .before in
+    let told = field-found (integerIn 0 lastMinor) (known-below w32 (at-args .args .words .now) (at-shared-slice-known2 .shared-slice-known2 .given)) refl (omega arith) (at-version-word .version-word .ensures .asked) (at-if1 .if1 .left) in let settled = body-found (settings (at-version-word .version-word .result .value)) (known-below w32 (at-args .args .words .now) (at-shared-slice-known2 .shared-slice-known2 .given)) refl (told .inside) (at-settings-words .settings-words .ensures) (at-if2 .if2 .left) in table-lost (outer-short (at-args .args .contents .now) (at-args .args .words .now) (record { number = 0; at = 0; to = 0 }) refl told (record { number = 0; at = at-version-word .version-word .result .pass .at; to = 16 }) refl (settled .1) (at-if3 .if3 .taken)) (c .lost3 .ensures) (at-out2 .out2 .given ∙ at-out .out .given)
 
 -- src/file.rt:63:58
 cast-group : tie.Need-cast-group
-cast-group c = let told = field-found (integerIn 0 lastMinor) (known-below w32 (c .before .before .before .before .before .before .before .before .before .before .before .before .before .before .before .before .before .before .before .args .words .now) (c .before .before .before .before .before .before .before .before .before .before .before .before .before .before .before .before .before .shared-slice-known2 .given)) refl (omega arith) (c .before .before .before .before .before .before .before .before .before .before .before .before .before .before .before .version-word .ensures .asked) (c .before .before .before .before .before .before .before .before .before .before .before .before .if1 .left) in omega (arith, version-small (c .before .before .before .before .before .before .before .before .before .before .before .before .before .before .before .before .before .before .before .args .contents .now) (c .before .before .before .before .before .before .before .before .before .before .before .before .before .before .before .before .before .before .before .args .words .now) (record { number = 0; at = 0; to = 0 }) refl told)
+cast-group c =
+    let at-if1 = c .before .before .before .before .before .before .before .before .before .before .before .before in
+    let at-version-word = at-if1 .before .before .before in
+    let at-shared-slice-known2 = at-version-word .before .before in
+    let at-args = at-shared-slice-known2 .before .before in
+    let told = field-found (integerIn 0 lastMinor) (known-below w32 (at-args .args .words .now) (at-shared-slice-known2 .shared-slice-known2 .given)) refl (omega arith) (at-version-word .version-word .ensures .asked) (at-if1 .if1 .left) in omega (arith, version-small (at-args .args .contents .now) (at-args .args .words .now) (record { number = 0; at = 0; to = 0 }) refl told)
 
 -- src/file.rt:63:9
 group-requires : tie.Need-group-requires
-group-requires c κs = let told = field-found (integerIn 0 lastMinor) (known-below w32 (c .before .before .before .before .before .before .before .before .before .before .before .before .before .before .before .before .before .before .before .args .words .now) (c .before .before .before .before .before .before .before .before .before .before .before .before .before .before .before .before .before .shared-slice-known2 .given)) refl (omega arith) (c .before .before .before .before .before .before .before .before .before .before .before .before .before .before .before .version-word .ensures .asked) (c .before .before .before .before .before .before .before .before .before .before .before .before .if1 .left) in let settled = body-found (settings (c .before .before .before .before .before .before .before .before .before .before .before .before .before .before .before .version-word .result .value)) (known-below w32 (c .before .before .before .before .before .before .before .before .before .before .before .before .before .before .before .before .before .before .before .args .words .now) (c .before .before .before .before .before .before .before .before .before .before .before .before .before .before .before .before .before .shared-slice-known2 .given)) refl (told .inside) (c .before .before .before .before .before .before .settings-words .ensures) (c .before .before .if2 .left) in (outer-stands (c .before .before .before .before .before .before .before .before .before .before .before .before .before .before .before .before .before .before .before .args .contents .now) (c .before .before .before .before .before .before .before .before .before .before .before .before .before .before .before .before .before .before .before .args .words .now) (record { number = 0; at = 0; to = 0 }) refl told (record { number = 0; at = c .before .before .before .before .before .before .before .before .before .before .before .before .before .before .before .version-word .result .pass .at; to = 16 }) refl (settled .1) refl (c .before .before .before .before .before .before .before .before .before .before .before .before .before .before .before .before .before .before .before .pre .1) (c .before .before .before .before .before .before .before .before .before .before .before .before .before .before .before .before .before .before .before .pre .0) (c .before .before .if2 .left), omega (arith, c .before .if3 .left))
+group-requires c κs =
+    let at-if3 = c .before in
+    let at-if2 = at-if3 .before in
+    let at-settings-words = at-if2 .before .before .before .before in
+    let at-if1 = at-settings-words .before .before .before .before .before .before in
+    let at-version-word = at-if1 .before .before .before in
+    let at-shared-slice-known2 = at-version-word .before .before in
+    let at-args = at-shared-slice-known2 .before .before in
+    let told = field-found (integerIn 0 lastMinor) (known-below w32 (at-args .args .words .now) (at-shared-slice-known2 .shared-slice-known2 .given)) refl (omega arith) (at-version-word .version-word .ensures .asked) (at-if1 .if1 .left) in let settled = body-found (settings (at-version-word .version-word .result .value)) (known-below w32 (at-args .args .words .now) (at-shared-slice-known2 .shared-slice-known2 .given)) refl (told .inside) (at-settings-words .settings-words .ensures) (at-if2 .if2 .left) in (outer-stands (at-args .args .contents .now) (at-args .args .words .now) (record { number = 0; at = 0; to = 0 }) refl told (record { number = 0; at = at-version-word .version-word .result .pass .at; to = 16 }) refl (settled .1) refl (at-args .pre .1) (at-args .pre .0) (at-if2 .if2 .left), omega (arith, at-if3 .if3 .left))
 
 -- src/file.rt:66:9
 lost-requires-4 : tie.Need-lost-requires-4
@@ -88,11 +135,33 @@ same-length-3 c = search needs
 
 -- src/file.rt:66:9
 returns-4 : tie.Need-returns-4
-returns-4 c = let told = field-found (integerIn 0 lastMinor) (known-below w32 (c .before .before .before .before .before .before .before .before .before .before .before .before .before .before .before .before .before .before .before .before .before .before .before .before .before .before .args .words .now) (c .before .before .before .before .before .before .before .before .before .before .before .before .before .before .before .before .before .before .before .before .before .before .before .before .shared-slice-known2 .given)) refl (omega arith) (c .before .before .before .before .before .before .before .before .before .before .before .before .before .before .before .before .before .before .before .before .before .before .version-word .ensures .asked) (c .before .before .before .before .before .before .before .before .before .before .before .before .before .before .before .before .before .before .before .if1 .left) in let settled = body-found (settings (c .before .before .before .before .before .before .before .before .before .before .before .before .before .before .before .before .before .before .before .before .before .before .version-word .result .value)) (known-below w32 (c .before .before .before .before .before .before .before .before .before .before .before .before .before .before .before .before .before .before .before .before .before .before .before .before .before .before .args .words .now) (c .before .before .before .before .before .before .before .before .before .before .before .before .before .before .before .before .before .before .before .before .before .before .before .before .shared-slice-known2 .given)) refl (told .inside) (c .before .before .before .before .before .before .before .before .before .before .before .before .before .settings-words .ensures) (c .before .before .before .before .before .before .before .before .before .if2 .left) in table-lost (outer-lost (c .before .before .before .before .before .before .before .before .before .before .before .before .before .before .before .before .before .before .before .before .before .before .before .before .before .before .args .contents .now) (c .before .before .before .before .before .before .before .before .before .before .before .before .before .before .before .before .before .before .before .before .before .before .before .before .before .before .args .words .now) (record { number = 0; at = 0; to = 0 }) refl told (record { number = 0; at = c .before .before .before .before .before .before .before .before .before .before .before .before .before .before .before .before .before .before .before .before .before .before .version-word .result .pass .at; to = 16 }) refl (settled .1) (omega (arith, c .before .before .before .before .before .before .before .before .if3 .left)) (c .before .before .before .before .before .before .group .ensures) (c .before .if4 .taken)) (c .lost4 .ensures) (c .before .before .before .before .before .out3 .given ∙ c .before .before .before .before .before .before .before .before .before .before .before .before .out2 .given ∙ c .before .before .before .before .before .before .before .before .before .before .before .before .before .before .before .before .out .given)
+returns-4 c =
+    let at-if4 = c .before in
+    let at-out3 = at-if4 .before .before .before .before in
+    let at-group = at-out3 .before in
+    let at-if3 = at-group .before .before in
+    let at-if2 = at-if3 .before in
+    let at-out2 = at-if2 .before .before .before in
+    let at-settings-words = at-out2 .before in
+    let at-out = at-settings-words .before .before .before in
+    let at-if1 = at-out .before .before .before in
+    let at-version-word = at-if1 .before .before .before in
+    let at-shared-slice-known2 = at-version-word .before .before in
+    let at-args = at-shared-slice-known2 .before .before in
+    let told = field-found (integerIn 0 lastMinor) (known-below w32 (at-args .args .words .now) (at-shared-slice-known2 .shared-slice-known2 .given)) refl (omega arith) (at-version-word .version-word .ensures .asked) (at-if1 .if1 .left) in let settled = body-found (settings (at-version-word .version-word .result .value)) (known-below w32 (at-args .args .words .now) (at-shared-slice-known2 .shared-slice-known2 .given)) refl (told .inside) (at-settings-words .settings-words .ensures) (at-if2 .if2 .left) in table-lost (outer-lost (at-args .args .contents .now) (at-args .args .words .now) (record { number = 0; at = 0; to = 0 }) refl told (record { number = 0; at = at-version-word .version-word .result .pass .at; to = 16 }) refl (settled .1) (omega (arith, at-if3 .if3 .left)) (at-group .group .ensures) (at-if4 .if4 .taken)) (c .lost4 .ensures) (at-out3 .out3 .given ∙ at-out2 .out2 .given ∙ at-out .out .given)
 
 -- src/file.rt:68:8
 mul-if5 : tie.Need-mul-if5
-mul-if5 c = let told = field-found (integerIn 0 lastMinor) (known-below w32 (c .before .before .before .before .before .before .before .before .before .before .before .before .before .before .before .before .before .before .before .before .before .before .before .before .before .before .args .words .now) (c .before .before .before .before .before .before .before .before .before .before .before .before .before .before .before .before .before .before .before .before .before .before .before .before .shared-slice-known2 .given)) refl (omega arith) (c .before .before .before .before .before .before .before .before .before .before .before .before .before .before .before .before .before .before .before .before .before .before .version-word .ensures .asked) (c .before .before .before .before .before .before .before .before .before .before .before .before .before .before .before .before .before .before .before .if1 .left) in let settled = body-found (settings (c .before .before .before .before .before .before .before .before .before .before .before .before .before .before .before .before .before .before .before .before .before .before .version-word .result .value)) (known-below w32 (c .before .before .before .before .before .before .before .before .before .before .before .before .before .before .before .before .before .before .before .before .before .before .before .before .before .before .args .words .now) (c .before .before .before .before .before .before .before .before .before .before .before .before .before .before .before .before .before .before .before .before .before .before .before .before .shared-slice-known2 .given)) refl (told .inside) (c .before .before .before .before .before .before .before .before .before .before .before .before .before .settings-words .ensures) (c .before .before .before .before .before .before .before .before .before .if2 .left) in let next = walked-over (c .before .before .before .before .before .before .group .ensures) (c .before .if4 .left) .here .next in omega (arith, next .rows-inside, next .short-rows)
+mul-if5 c =
+    let at-if4 = c .before in
+    let at-group = at-if4 .before .before .before .before .before in
+    let at-if2 = at-group .before .before .before in
+    let at-settings-words = at-if2 .before .before .before .before in
+    let at-if1 = at-settings-words .before .before .before .before .before .before in
+    let at-version-word = at-if1 .before .before .before in
+    let at-shared-slice-known2 = at-version-word .before .before in
+    let at-args = at-shared-slice-known2 .before .before in
+    let told = field-found (integerIn 0 lastMinor) (known-below w32 (at-args .args .words .now) (at-shared-slice-known2 .shared-slice-known2 .given)) refl (omega arith) (at-version-word .version-word .ensures .asked) (at-if1 .if1 .left) in let settled = body-found (settings (at-version-word .version-word .result .value)) (known-below w32 (at-args .args .words .now) (at-shared-slice-known2 .shared-slice-known2 .given)) refl (told .inside) (at-settings-words .settings-words .ensures) (at-if2 .if2 .left) in let next = walked-over (at-group .group .ensures) (at-if4 .if4 .left) .here .next in omega (arith, next .rows-inside, next .short-rows)
 
 -- src/file.rt:69:9
 lost-requires-5 : tie.Need-lost-requires-5
@@ -100,11 +169,29 @@ lost-requires-5 c κs = search needs
 
 -- src/file.rt:69:9
 same-length-4 : tie.Need-same-length-4
-same-length-4 c = c .before .before .before .before .before .before .before .out3 .given ∙ c .before .before .before .before .before .before .before .before .before .before .before .before .before .before .out2 .given ∙ c .before .before .before .before .before .before .before .before .before .before .before .before .before .before .before .before .before .before .out .given
+same-length-4 c =
+    let at-out3 = c .before .before .before .before .before .before .before in
+    let at-out2 = at-out3 .before .before .before .before .before .before .before in
+    let at-out = at-out2 .before .before .before .before in
+    at-out3 .out3 .given ∙ at-out2 .out2 .given ∙ at-out .out .given
 
 -- src/file.rt:69:9
 returns-5 : tie.Need-returns-5
-returns-5 c = let told = field-found (integerIn 0 lastMinor) (known-below w32 (c .before .before .before .before .before .before .before .before .before .before .before .before .before .before .before .before .before .before .before .before .before .before .before .before .before .before .before .before .args .words .now) (c .before .before .before .before .before .before .before .before .before .before .before .before .before .before .before .before .before .before .before .before .before .before .before .before .before .before .shared-slice-known2 .given)) refl (omega arith) (c .before .before .before .before .before .before .before .before .before .before .before .before .before .before .before .before .before .before .before .before .before .before .before .before .version-word .ensures .asked) (c .before .before .before .before .before .before .before .before .before .before .before .before .before .before .before .before .before .before .before .before .before .if1 .left) in let settled = body-found (settings (c .before .before .before .before .before .before .before .before .before .before .before .before .before .before .before .before .before .before .before .before .before .before .before .before .version-word .result .value)) (known-below w32 (c .before .before .before .before .before .before .before .before .before .before .before .before .before .before .before .before .before .before .before .before .before .before .before .before .before .before .before .before .args .words .now) (c .before .before .before .before .before .before .before .before .before .before .before .before .before .before .before .before .before .before .before .before .before .before .before .before .before .before .shared-slice-known2 .given)) refl (told .inside) (c .before .before .before .before .before .before .before .before .before .before .before .before .before .before .before .settings-words .ensures) (c .before .before .before .before .before .before .before .before .before .before .before .if2 .left) in table-lost (rows-left (c .before .before .before .before .before .before .before .before .before .before .before .before .before .before .before .before .before .before .before .before .before .before .before .before .before .before .before .before .args .contents .now) (c .before .before .before .before .before .before .before .before .before .before .before .before .before .before .before .before .before .before .before .before .before .before .before .before .before .before .before .before .args .words .now) (record { number = 0; at = 0; to = 0 }) refl told (record { number = 0; at = c .before .before .before .before .before .before .before .before .before .before .before .before .before .before .before .before .before .before .before .before .before .before .before .before .version-word .result .pass .at; to = 16 }) refl (settled .1) (omega (arith, c .before .before .before .before .before .before .before .before .before .before .if3 .left)) (c .before .before .before .before .before .before .before .before .group .ensures) (c .before .before .before .if4 .left) (c .before .if5 .taken)) (c .lost5 .ensures) (c .before .before .before .before .before .before .before .out3 .given ∙ c .before .before .before .before .before .before .before .before .before .before .before .before .before .before .out2 .given ∙ c .before .before .before .before .before .before .before .before .before .before .before .before .before .before .before .before .before .before .out .given)
+returns-5 c =
+    let at-if5 = c .before in
+    let at-if4 = at-if5 .before .before in
+    let at-out3 = at-if4 .before .before .before .before in
+    let at-group = at-out3 .before in
+    let at-if3 = at-group .before .before in
+    let at-if2 = at-if3 .before in
+    let at-out2 = at-if2 .before .before .before in
+    let at-settings-words = at-out2 .before in
+    let at-out = at-settings-words .before .before .before in
+    let at-if1 = at-out .before .before .before in
+    let at-version-word = at-if1 .before .before .before in
+    let at-shared-slice-known2 = at-version-word .before .before in
+    let at-args = at-shared-slice-known2 .before .before in
+    let told = field-found (integerIn 0 lastMinor) (known-below w32 (at-args .args .words .now) (at-shared-slice-known2 .shared-slice-known2 .given)) refl (omega arith) (at-version-word .version-word .ensures .asked) (at-if1 .if1 .left) in let settled = body-found (settings (at-version-word .version-word .result .value)) (known-below w32 (at-args .args .words .now) (at-shared-slice-known2 .shared-slice-known2 .given)) refl (told .inside) (at-settings-words .settings-words .ensures) (at-if2 .if2 .left) in table-lost (rows-left (at-args .args .contents .now) (at-args .args .words .now) (record { number = 0; at = 0; to = 0 }) refl told (record { number = 0; at = at-version-word .version-word .result .pass .at; to = 16 }) refl (settled .1) (omega (arith, at-if3 .if3 .left)) (at-group .group .ensures) (at-if4 .if4 .left) (at-if5 .if5 .taken)) (c .lost5 .ensures) (at-out3 .out3 .given ∙ at-out2 .out2 .given ∙ at-out .out .given)
 
 -- src/file.rt:72:9
 lost-requires-6 : tie.Need-lost-requires-6
@@ -112,11 +199,29 @@ lost-requires-6 c κs = search needs
 
 -- src/file.rt:72:9
 same-length-5 : tie.Need-same-length-5
-same-length-5 c = c .before .before .before .before .before .before .before .before .before .out3 .given ∙ c .before .before .before .before .before .before .before .before .before .before .before .before .before .before .before .before .out2 .given ∙ c .before .before .before .before .before .before .before .before .before .before .before .before .before .before .before .before .before .before .before .before .out .given
+same-length-5 c =
+    let at-out3 = c .before .before .before .before .before .before .before .before .before in
+    let at-out2 = at-out3 .before .before .before .before .before .before .before in
+    let at-out = at-out2 .before .before .before .before in
+    at-out3 .out3 .given ∙ at-out2 .out2 .given ∙ at-out .out .given
 
 -- src/file.rt:72:9
 returns-6 : tie.Need-returns-6
-returns-6 c = let told = field-found (integerIn 0 lastMinor) (known-below w32 (c .before .before .before .before .before .before .before .before .before .before .before .before .before .before .before .before .before .before .before .before .before .before .before .before .before .before .before .before .before .before .args .words .now) (c .before .before .before .before .before .before .before .before .before .before .before .before .before .before .before .before .before .before .before .before .before .before .before .before .before .before .before .before .shared-slice-known2 .given)) refl (omega arith) (c .before .before .before .before .before .before .before .before .before .before .before .before .before .before .before .before .before .before .before .before .before .before .before .before .before .before .version-word .ensures .asked) (c .before .before .before .before .before .before .before .before .before .before .before .before .before .before .before .before .before .before .before .before .before .before .before .if1 .left) in let settled = body-found (settings (c .before .before .before .before .before .before .before .before .before .before .before .before .before .before .before .before .before .before .before .before .before .before .before .before .before .before .version-word .result .value)) (known-below w32 (c .before .before .before .before .before .before .before .before .before .before .before .before .before .before .before .before .before .before .before .before .before .before .before .before .before .before .before .before .before .before .args .words .now) (c .before .before .before .before .before .before .before .before .before .before .before .before .before .before .before .before .before .before .before .before .before .before .before .before .before .before .before .before .shared-slice-known2 .given)) refl (told .inside) (c .before .before .before .before .before .before .before .before .before .before .before .before .before .before .before .before .before .settings-words .ensures) (c .before .before .before .before .before .before .before .before .before .before .before .before .before .if2 .left) in table-lost (words-left (c .before .before .before .before .before .before .before .before .before .before .before .before .before .before .before .before .before .before .before .before .before .before .before .before .before .before .before .before .before .before .args .contents .now) (c .before .before .before .before .before .before .before .before .before .before .before .before .before .before .before .before .before .before .before .before .before .before .before .before .before .before .before .before .before .before .args .words .now) (record { number = 0; at = 0; to = 0 }) refl told (record { number = 0; at = c .before .before .before .before .before .before .before .before .before .before .before .before .before .before .before .before .before .before .before .before .before .before .before .before .before .before .version-word .result .pass .at; to = 16 }) refl (settled .1) (omega (arith, c .before .before .before .before .before .before .before .before .before .before .before .before .if3 .left)) (c .before .before .before .before .before .before .before .before .before .before .group .ensures) (c .before .before .before .before .before .if4 .left) (c .before .if6 .taken)) (c .lost6 .ensures) (c .before .before .before .before .before .before .before .before .before .out3 .given ∙ c .before .before .before .before .before .before .before .before .before .before .before .before .before .before .before .before .out2 .given ∙ c .before .before .before .before .before .before .before .before .before .before .before .before .before .before .before .before .before .before .before .before .out .given)
+returns-6 c =
+    let at-if6 = c .before in
+    let at-if4 = at-if6 .before .before .before .before in
+    let at-out3 = at-if4 .before .before .before .before in
+    let at-group = at-out3 .before in
+    let at-if3 = at-group .before .before in
+    let at-if2 = at-if3 .before in
+    let at-out2 = at-if2 .before .before .before in
+    let at-settings-words = at-out2 .before in
+    let at-out = at-settings-words .before .before .before in
+    let at-if1 = at-out .before .before .before in
+    let at-version-word = at-if1 .before .before .before in
+    let at-shared-slice-known2 = at-version-word .before .before in
+    let at-args = at-shared-slice-known2 .before .before in
+    let told = field-found (integerIn 0 lastMinor) (known-below w32 (at-args .args .words .now) (at-shared-slice-known2 .shared-slice-known2 .given)) refl (omega arith) (at-version-word .version-word .ensures .asked) (at-if1 .if1 .left) in let settled = body-found (settings (at-version-word .version-word .result .value)) (known-below w32 (at-args .args .words .now) (at-shared-slice-known2 .shared-slice-known2 .given)) refl (told .inside) (at-settings-words .settings-words .ensures) (at-if2 .if2 .left) in table-lost (words-left (at-args .args .contents .now) (at-args .args .words .now) (record { number = 0; at = 0; to = 0 }) refl told (record { number = 0; at = at-version-word .version-word .result .pass .at; to = 16 }) refl (settled .1) (omega (arith, at-if3 .if3 .left)) (at-group .group .ensures) (at-if4 .if4 .left) (at-if6 .if6 .taken)) (c .lost6 .ensures) (at-out3 .out3 .given ∙ at-out2 .out2 .given ∙ at-out .out .given)
 
 -- src/file.rt:75:9
 lost-requires-7 : tie.Need-lost-requires-7
@@ -124,19 +229,54 @@ lost-requires-7 c κs = search needs
 
 -- src/file.rt:75:9
 same-length-6 : tie.Need-same-length-6
-same-length-6 c = c .before .before .before .before .before .before .before .before .before .before .before .out3 .given ∙ c .before .before .before .before .before .before .before .before .before .before .before .before .before .before .before .before .before .before .out2 .given ∙ c .before .before .before .before .before .before .before .before .before .before .before .before .before .before .before .before .before .before .before .before .before .before .out .given
+same-length-6 c =
+    let at-out3 = c .before .before .before .before .before .before .before .before .before .before .before in
+    let at-out2 = at-out3 .before .before .before .before .before .before .before in
+    let at-out = at-out2 .before .before .before .before in
+    at-out3 .out3 .given ∙ at-out2 .out2 .given ∙ at-out .out .given
 
 -- src/file.rt:75:9
 returns-7 : tie.Need-returns-7
-returns-7 c = let told = field-found (integerIn 0 lastMinor) (known-below w32 (c .before .before .before .before .before .before .before .before .before .before .before .before .before .before .before .before .before .before .before .before .before .before .before .before .before .before .before .before .before .before .before .before .args .words .now) (c .before .before .before .before .before .before .before .before .before .before .before .before .before .before .before .before .before .before .before .before .before .before .before .before .before .before .before .before .before .before .shared-slice-known2 .given)) refl (omega arith) (c .before .before .before .before .before .before .before .before .before .before .before .before .before .before .before .before .before .before .before .before .before .before .before .before .before .before .before .before .version-word .ensures .asked) (c .before .before .before .before .before .before .before .before .before .before .before .before .before .before .before .before .before .before .before .before .before .before .before .before .before .if1 .left) in let settled = body-found (settings (c .before .before .before .before .before .before .before .before .before .before .before .before .before .before .before .before .before .before .before .before .before .before .before .before .before .before .before .before .version-word .result .value)) (known-below w32 (c .before .before .before .before .before .before .before .before .before .before .before .before .before .before .before .before .before .before .before .before .before .before .before .before .before .before .before .before .before .before .before .before .args .words .now) (c .before .before .before .before .before .before .before .before .before .before .before .before .before .before .before .before .before .before .before .before .before .before .before .before .before .before .before .before .before .before .shared-slice-known2 .given)) refl (told .inside) (c .before .before .before .before .before .before .before .before .before .before .before .before .before .before .before .before .before .before .before .settings-words .ensures) (c .before .before .before .before .before .before .before .before .before .before .before .before .before .before .before .if2 .left) in table-lost (file-long (c .before .before .before .before .before .before .before .before .before .before .before .before .before .before .before .before .before .before .before .before .before .before .before .before .before .before .before .before .before .before .before .before .args .contents .now) (c .before .before .before .before .before .before .before .before .before .before .before .before .before .before .before .before .before .before .before .before .before .before .before .before .before .before .before .before .before .before .before .before .args .words .now) (record { number = 0; at = 0; to = 0 }) refl told (record { number = 0; at = c .before .before .before .before .before .before .before .before .before .before .before .before .before .before .before .before .before .before .before .before .before .before .before .before .before .before .before .before .version-word .result .pass .at; to = 16 }) refl (settled .1) (omega (arith, c .before .before .before .before .before .before .before .before .before .before .before .before .before .before .if3 .left)) (c .before .before .before .before .before .before .before .before .before .before .before .before .group .ensures) (c .before .before .before .before .before .before .before .if4 .left) refl (c .before .if7 .taken)) (c .lost7 .ensures) (c .before .before .before .before .before .before .before .before .before .before .before .out3 .given ∙ c .before .before .before .before .before .before .before .before .before .before .before .before .before .before .before .before .before .before .out2 .given ∙ c .before .before .before .before .before .before .before .before .before .before .before .before .before .before .before .before .before .before .before .before .before .before .out .given)
+returns-7 c =
+    let at-if7 = c .before in
+    let at-if4 = at-if7 .before .before .before .before .before .before in
+    let at-out3 = at-if4 .before .before .before .before in
+    let at-group = at-out3 .before in
+    let at-if3 = at-group .before .before in
+    let at-if2 = at-if3 .before in
+    let at-out2 = at-if2 .before .before .before in
+    let at-settings-words = at-out2 .before in
+    let at-out = at-settings-words .before .before .before in
+    let at-if1 = at-out .before .before .before in
+    let at-version-word = at-if1 .before .before .before in
+    let at-shared-slice-known2 = at-version-word .before .before in
+    let at-args = at-shared-slice-known2 .before .before in
+    let told = field-found (integerIn 0 lastMinor) (known-below w32 (at-args .args .words .now) (at-shared-slice-known2 .shared-slice-known2 .given)) refl (omega arith) (at-version-word .version-word .ensures .asked) (at-if1 .if1 .left) in let settled = body-found (settings (at-version-word .version-word .result .value)) (known-below w32 (at-args .args .words .now) (at-shared-slice-known2 .shared-slice-known2 .given)) refl (told .inside) (at-settings-words .settings-words .ensures) (at-if2 .if2 .left) in table-lost (file-long (at-args .args .contents .now) (at-args .args .words .now) (record { number = 0; at = 0; to = 0 }) refl told (record { number = 0; at = at-version-word .version-word .result .pass .at; to = 16 }) refl (settled .1) (omega (arith, at-if3 .if3 .left)) (at-group .group .ensures) (at-if4 .if4 .left) refl (at-if7 .if7 .taken)) (c .lost7 .ensures) (at-out3 .out3 .given ∙ at-out2 .out2 .given ∙ at-out .out .given)
 
 -- src/file.rt:28:1
 same-length-7 : tie.Need-same-length-7
-same-length-7 c = c .before .before .before .before .before .before .before .before .before .before .out3 .given ∙ c .before .before .before .before .before .before .before .before .before .before .before .before .before .before .before .before .before .out2 .given ∙ c .before .before .before .before .before .before .before .before .before .before .before .before .before .before .before .before .before .before .before .before .before .out .given
+same-length-7 c =
+    let at-out3 = c .before .before .before .before .before .before .before .before .before .before in
+    let at-out2 = at-out3 .before .before .before .before .before .before .before in
+    let at-out = at-out2 .before .before .before .before in
+    at-out3 .out3 .given ∙ at-out2 .out2 .given ∙ at-out .out .given
 
 -- src/file.rt:28:1
 returns-8 : tie.Need-returns-8
-returns-8 c = let told = field-found (integerIn 0 lastMinor) (known-below w32 (c .before .before .before .before .before .before .before .before .before .before .before .before .before .before .before .before .before .before .before .before .before .before .before .before .before .before .before .before .before .before .before .args .words .now) (c .before .before .before .before .before .before .before .before .before .before .before .before .before .before .before .before .before .before .before .before .before .before .before .before .before .before .before .before .before .shared-slice-known2 .given)) refl (omega arith) (c .before .before .before .before .before .before .before .before .before .before .before .before .before .before .before .before .before .before .before .before .before .before .before .before .before .before .before .version-word .ensures .asked) (c .before .before .before .before .before .before .before .before .before .before .before .before .before .before .before .before .before .before .before .before .before .before .before .before .if1 .left) in let settled = body-found (settings (c .before .before .before .before .before .before .before .before .before .before .before .before .before .before .before .before .before .before .before .before .before .before .before .before .before .before .before .version-word .result .value)) (known-below w32 (c .before .before .before .before .before .before .before .before .before .before .before .before .before .before .before .before .before .before .before .before .before .before .before .before .before .before .before .before .before .before .before .args .words .now) (c .before .before .before .before .before .before .before .before .before .before .before .before .before .before .before .before .before .before .before .before .before .before .before .before .before .before .before .before .before .shared-slice-known2 .given)) refl (told .inside) (c .before .before .before .before .before .before .before .before .before .before .before .before .before .before .before .before .before .before .settings-words .ensures) (c .before .before .before .before .before .before .before .before .before .before .before .before .before .before .if2 .left) in table-walks (c .before .before .before .before .before .before .before .before .before .before .before .before .before .before .before .before .before .before .before .before .before .before .before .before .before .before .before .before .before .before .before .args .contents .now) (c .before .before .before .before .before .before .before .before .before .before .before .before .before .before .before .before .before .before .before .before .before .before .before .before .before .before .before .before .before .before .before .args .words .now) (record { number = 0; at = 0; to = 0 }) refl told (record { number = 0; at = c .before .before .before .before .before .before .before .before .before .before .before .before .before .before .before .before .before .before .before .before .before .before .before .before .before .before .before .version-word .result .pass .at; to = 16 }) refl (settled .1) (omega (arith, c .before .before .before .before .before .before .before .before .before .before .before .before .before .if3 .left)) (c .before .before .before .before .before .before .before .before .before .before .before .group .ensures) (c .before .before .before .before .before .before .if4 .left) (known-below w32 (c .before .before .before .before .before .before .before .before .before .before .before .before .before .before .before .before .before .before .before .before .before .before .before .before .before .before .before .before .before .before .before .args .words .now) (c .before .before .before .before .before .before .before .before .before .before .before .before .before .before .before .before .before .before .before .before .before .before .before .before .before .before .before .before .before .shared-slice-known2 .given)) refl (c .before .before .before .before .before .before .before .before .before .before .before .before .before .before .before .before .before .before .before .before .before .before .put-head .ensures) (λ more. omega (arith, more, c .before .before .before .before .if5 .left)) (λ more. omega (arith, more, c .before .before .if6 .left)) (λ long. omega (arith, long, c .if7 .left))
+returns-8 c =
+    let at-if6 = c .before .before in
+    let at-if5 = at-if6 .before .before in
+    let at-if4 = at-if5 .before .before in
+    let at-group = at-if4 .before .before .before .before .before in
+    let at-if3 = at-group .before .before in
+    let at-if2 = at-if3 .before in
+    let at-settings-words = at-if2 .before .before .before .before in
+    let at-put-head = at-settings-words .before .before .before .before in
+    let at-if1 = at-put-head .before .before in
+    let at-version-word = at-if1 .before .before .before in
+    let at-shared-slice-known2 = at-version-word .before .before in
+    let at-args = at-shared-slice-known2 .before .before in
+    let told = field-found (integerIn 0 lastMinor) (known-below w32 (at-args .args .words .now) (at-shared-slice-known2 .shared-slice-known2 .given)) refl (omega arith) (at-version-word .version-word .ensures .asked) (at-if1 .if1 .left) in let settled = body-found (settings (at-version-word .version-word .result .value)) (known-below w32 (at-args .args .words .now) (at-shared-slice-known2 .shared-slice-known2 .given)) refl (told .inside) (at-settings-words .settings-words .ensures) (at-if2 .if2 .left) in table-walks (at-args .args .contents .now) (at-args .args .words .now) (record { number = 0; at = 0; to = 0 }) refl told (record { number = 0; at = at-version-word .version-word .result .pass .at; to = 16 }) refl (settled .1) (omega (arith, at-if3 .if3 .left)) (at-group .group .ensures) (at-if4 .if4 .left) (known-below w32 (at-args .args .words .now) (at-shared-slice-known2 .shared-slice-known2 .given)) refl (at-put-head .put-head .ensures) (λ more. omega (arith, more, at-if5 .if5 .left)) (λ more. omega (arith, more, at-if6 .if6 .left)) (λ long. omega (arith, long, c .if7 .left))
 
 pub walk-table-spec : {M : Type 1} → statement M
 walk-table-spec =

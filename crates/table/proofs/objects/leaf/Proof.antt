@@ -41,7 +41,10 @@ lost-requires c κs = search needs
 
 -- src/objects.rt:46:9
 returns : tie.Need-returns
-returns c = λ deep. walks-lost (leaf-other (c .before .before .before .before .before .before .args .contents .now) (c .before .before .before .before .before .before .args .words .now) (c .before .before .before .before .before .before .args .version) (c .before .before .before .before .before .before .args .parent) (c .before .before .before .before .before .before .args .row) (c .before .before .before .before .before .before .args .p) (c .before .before .before .before .before .before .pre .1) (inl (c .before .if1 .taken))) (c .lost .ensures) refl
+returns c =
+    let at-if1 = c .before in
+    let at-args = at-if1 .before .before .before .before .before in
+    λ deep. walks-lost (leaf-other (at-args .args .contents .now) (at-args .args .words .now) (at-args .args .version) (at-args .args .parent) (at-args .args .row) (at-args .args .p) (at-args .pre .1) (inl (at-if1 .if1 .taken))) (c .lost .ensures) refl
 
 -- src/objects.rt:49:9
 lost-requires-2 : tie.Need-lost-requires-2
@@ -49,7 +52,10 @@ lost-requires-2 c κs = search needs
 
 -- src/objects.rt:49:9
 returns-2 : tie.Need-returns-2
-returns-2 c = λ deep. walks-lost (leaf-other (c .before .before .before .before .before .before .before .args .contents .now) (c .before .before .before .before .before .before .before .args .words .now) (c .before .before .before .before .before .before .before .args .version) (c .before .before .before .before .before .before .before .args .parent) (c .before .before .before .before .before .before .before .args .row) (c .before .before .before .before .before .before .before .args .p) (c .before .before .before .before .before .before .before .pre .1) (inr (c .before .if2 .taken))) (c .lost2 .ensures) refl
+returns-2 c =
+    let at-if2 = c .before in
+    let at-args = at-if2 .before .before .before .before .before .before in
+    λ deep. walks-lost (leaf-other (at-args .args .contents .now) (at-args .args .words .now) (at-args .args .version) (at-args .args .parent) (at-args .args .row) (at-args .args .p) (at-args .pre .1) (inr (at-if2 .if2 .taken))) (c .lost2 .ensures) refl
 
 -- src/objects.rt:53:9
 letter-of-requires : tie.Need-letter-of-requires
@@ -77,11 +83,26 @@ same-length c = search needs
 
 -- src/objects.rt:67:9
 returns-3 : tie.Need-returns-3
-returns-3 c = λ deep. let laid = same-letter (c .before .before .before .before .before .before .before .before .before .before .before .before .before .before .before .before .before .before .args .version) (c .before .before .before .before .before .before .before .before .before .before .before .letter-of .ensures .0) (c .before .before .before .before .before .leaf-words .ensures) in walks-lost (leaf-unfound (c .before .before .before .before .before .before .before .before .before .before .before .before .before .before .before .before .before .before .args .contents .now) (c .before .before .before .before .before .before .before .before .before .before .before .before .before .before .before .before .before .before .args .words .now) (c .before .before .before .before .before .before .before .before .before .before .before .before .before .before .before .before .before .before .args .version) (c .before .before .before .before .before .before .before .before .before .before .before .before .before .before .before .before .before .before .args .parent) (c .before .before .before .before .before .before .before .before .before .before .before .before .before .before .before .before .before .before .args .row) (c .before .before .before .before .before .before .before .before .before .before .before .before .before .before .before .before .before .before .args .p) (c .before .before .before .before .before .before .before .before .before .before .before .before .before .before .before .before .before .before .pre .1) (omega (arith, c .before .before .before .before .before .before .before .before .before .before .before .before .before .if1 .left)) (omega (arith, c .before .before .before .before .before .before .before .before .before .before .before .before .if2 .left)) (record { number = 0; at = c .before .before .before .before .before .before .before .before .before .before .before .before .before .before .before .before .before .before .args .p .at; to = c .before .before .before .before .before .before .before .before .before .before .before .before .before .before .before .before .before .before .args .p .to + 2 }) refl (body-unfound (leafBody (c .before .before .before .before .before .before .before .before .before .before .before .before .before .before .before .before .before .before .args .version) (letterOf (getD (c .before .before .before .before .before .before .before .before .before .before .before .before .before .before .before .before .before .before .args .contents .now) (4 * c .before .before .before .before .before .before .before .before .before .before .before .before .before .before .before .before .before .before .args .row) 0))) (known-below w32 (c .before .before .before .before .before .before .before .before .before .before .before .before .before .before .before .before .before .before .args .words .now) (c .before .before .before .before .before .before .before .before .before .before .before .before .before .before .before .before .shared-slice-known2 .given)) refl (c .before .before .before .before .before .before .before .before .before .before .before .before .before .before .before .before .before .before .pre .0 .inside) laid (c .before .if3 .taken))) (c .lost3 .ensures) (c .before .before .before .before .out2 .given ∙ c .before .before .before .before .before .before .before .before .out .given)
+returns-3 c =
+    let at-if3 = c .before in
+    let at-out2 = at-if3 .before .before .before in
+    let at-leaf-words = at-out2 .before in
+    let at-out = at-leaf-words .before .before .before in
+    let at-letter-of = at-out .before .before .before in
+    let at-if2 = at-letter-of .before in
+    let at-if1 = at-if2 .before in
+    let at-shared-slice-known2 = at-if1 .before .before .before in
+    let at-args = at-shared-slice-known2 .before .before in
+    λ deep. let laid = same-letter (at-args .args .version) (at-letter-of .letter-of .ensures .0) (at-leaf-words .leaf-words .ensures) in walks-lost (leaf-unfound (at-args .args .contents .now) (at-args .args .words .now) (at-args .args .version) (at-args .args .parent) (at-args .args .row) (at-args .args .p) (at-args .pre .1) (omega (arith, at-if1 .if1 .left)) (omega (arith, at-if2 .if2 .left)) (record { number = 0; at = at-args .args .p .at; to = at-args .args .p .to + 2 }) refl (body-unfound (leafBody (at-args .args .version) (letterOf (getD (at-args .args .contents .now) (4 * at-args .args .row) 0))) (known-below w32 (at-args .args .words .now) (at-shared-slice-known2 .shared-slice-known2 .given)) refl (at-args .pre .0 .inside) laid (at-if3 .if3 .taken))) (c .lost3 .ensures) (at-out2 .out2 .given ∙ at-out .out .given)
 
 -- src/objects.rt:70:48
 sub-is-row : tie.Need-sub-is-row
-sub-is-row c = let laid = same-letter (c .before .before .before .before .before .before .before .before .before .before .before .before .before .before .before .before .before .args .version) (c .before .before .before .before .before .before .before .before .before .before .letter-of .ensures .0) (c .before .before .before .before .leaf-words .ensures) in let found = body-found (leafBody (c .before .before .before .before .before .before .before .before .before .before .before .before .before .before .before .before .before .args .version) (letterOf (getD (c .before .before .before .before .before .before .before .before .before .before .before .before .before .before .before .before .before .args .contents .now) (4 * c .before .before .before .before .before .before .before .before .before .before .before .before .before .before .before .before .before .args .row) 0))) (known-below w32 (c .before .before .before .before .before .before .before .before .before .before .before .before .before .before .before .before .before .args .words .now) (c .before .before .before .before .before .before .before .before .before .before .before .before .before .before .before .shared-slice-known2 .given)) refl (c .before .before .before .before .before .before .before .before .before .before .before .before .before .before .before .before .before .pre .0 .inside) laid (c .if3 .left) in omega (arith, found .1 .at-is)
+sub-is-row c =
+    let at-leaf-words = c .before .before .before .before in
+    let at-letter-of = at-leaf-words .before .before .before .before .before .before in
+    let at-shared-slice-known2 = at-letter-of .before .before .before .before .before in
+    let at-args = at-shared-slice-known2 .before .before in
+    let laid = same-letter (at-args .args .version) (at-letter-of .letter-of .ensures .0) (at-leaf-words .leaf-words .ensures) in let found = body-found (leafBody (at-args .args .version) (letterOf (getD (at-args .args .contents .now) (4 * at-args .args .row) 0))) (known-below w32 (at-args .args .words .now) (at-shared-slice-known2 .shared-slice-known2 .given)) refl (at-args .pre .0 .inside) laid (c .if3 .left) in omega (arith, found .1 .at-is)
 
 -- src/objects.rt:70:8
 is-row-requires : tie.Need-is-row-requires
@@ -97,7 +118,17 @@ same-length-2 c = search needs
 
 -- src/objects.rt:71:9
 returns-4 : tie.Need-returns-4
-returns-4 c = λ deep. let laid = same-letter (c .before .before .before .before .before .before .before .before .before .before .before .before .before .before .before .before .before .before .before .args .version) (c .before .before .before .before .before .before .before .before .before .before .before .before .letter-of .ensures .0) (c .before .before .before .before .before .before .leaf-words .ensures) in let found = body-found (leafBody (c .before .before .before .before .before .before .before .before .before .before .before .before .before .before .before .before .before .before .before .args .version) (letterOf (getD (c .before .before .before .before .before .before .before .before .before .before .before .before .before .before .before .before .before .before .before .args .contents .now) (4 * c .before .before .before .before .before .before .before .before .before .before .before .before .before .before .before .before .before .before .before .args .row) 0))) (known-below w32 (c .before .before .before .before .before .before .before .before .before .before .before .before .before .before .before .before .before .before .before .args .words .now) (c .before .before .before .before .before .before .before .before .before .before .before .before .before .before .before .before .before .shared-slice-known2 .given)) refl (c .before .before .before .before .before .before .before .before .before .before .before .before .before .before .before .before .before .before .before .pre .0 .inside) laid (c .before .before .if3 .left) in leaf-right (c .before .before .before .before .before .before .before .before .before .before .before .before .before .before .before .before .before .before .before .args .contents .now) (c .before .before .before .before .before .before .before .before .before .before .before .before .before .before .before .before .before .before .before .args .words .now) (c .before .before .before .before .before .before .before .before .before .before .before .before .before .before .before .before .before .before .before .args .version) (c .before .before .before .before .before .before .before .before .before .before .before .before .before .before .before .before .before .before .before .args .parent) (c .before .before .before .before .before .before .before .before .before .before .before .before .before .before .before .before .before .before .before .args .row) (c .before .before .before .before .before .before .before .before .before .before .before .before .before .before .before .before .before .before .before .args .p) (c .before .before .before .before .before .before .before .before .before .before .before .before .before .before .before .before .before .before .before .pre .1) (omega (arith, c .before .before .before .before .before .before .before .before .before .before .before .before .before .before .if1 .left)) (omega (arith, c .before .before .before .before .before .before .before .before .before .before .before .before .before .if2 .left)) (record { number = 0; at = c .before .before .before .before .before .before .before .before .before .before .before .before .before .before .before .before .before .before .before .args .p .at; to = c .before .before .before .before .before .before .before .before .before .before .before .before .before .before .before .before .before .before .before .args .p .to + 2 }) refl (found .1) refl (c .before .before .before .before .before .before .before .before .before .before .write-value .ensures ∙ ap (λ letter. put (c .before .before .before .before .before .before .before .before .before .before .before .before .before .before .before .before .before .before .before .args .p .to) (digits 256 2 letter) (c .before .before .before .before .before .before .before .before .before .before .before .before .before .before .before .before .before .before .before .args .out .now)) (c .before .before .before .before .before .before .before .before .before .before .before .before .letter-of .ensures .0)) (c .before .before .before .before .before .before .before .before .before .before .before .before .before .before .before .before .before .before .before .pre .0) (sym (c .before .is-row .ensures) ∙ c .if4 .taken) (c .before .before .if3 .left) deep
+returns-4 c =
+    let at-is-row = c .before in
+    let at-if3 = at-is-row .before in
+    let at-leaf-words = at-if3 .before .before .before .before in
+    let at-write-value = at-leaf-words .before .before .before .before in
+    let at-letter-of = at-write-value .before .before in
+    let at-if2 = at-letter-of .before in
+    let at-if1 = at-if2 .before in
+    let at-shared-slice-known2 = at-if1 .before .before .before in
+    let at-args = at-shared-slice-known2 .before .before in
+    λ deep. let laid = same-letter (at-args .args .version) (at-letter-of .letter-of .ensures .0) (at-leaf-words .leaf-words .ensures) in let found = body-found (leafBody (at-args .args .version) (letterOf (getD (at-args .args .contents .now) (4 * at-args .args .row) 0))) (known-below w32 (at-args .args .words .now) (at-shared-slice-known2 .shared-slice-known2 .given)) refl (at-args .pre .0 .inside) laid (at-if3 .if3 .left) in leaf-right (at-args .args .contents .now) (at-args .args .words .now) (at-args .args .version) (at-args .args .parent) (at-args .args .row) (at-args .args .p) (at-args .pre .1) (omega (arith, at-if1 .if1 .left)) (omega (arith, at-if2 .if2 .left)) (record { number = 0; at = at-args .args .p .at; to = at-args .args .p .to + 2 }) refl (found .1) refl (at-write-value .write-value .ensures ∙ ap (λ letter. put (at-args .args .p .to) (digits 256 2 letter) (at-args .args .out .now)) (at-letter-of .letter-of .ensures .0)) (at-args .pre .0) (sym (at-is-row .is-row .ensures) ∙ c .if4 .taken) (at-if3 .if3 .left) deep
 
 -- src/objects.rt:76:5
 lost-requires-4 : tie.Need-lost-requires-4
@@ -109,7 +140,19 @@ same-length-3 c = search needs
 
 -- src/objects.rt:31:1
 returns-5 : tie.Need-returns-5
-returns-5 c = λ deep. let laid = same-letter (c .before .before .before .before .before .before .before .before .before .before .before .before .before .before .before .before .before .before .before .before .args .version) (c .before .before .before .before .before .before .before .before .before .before .before .before .before .letter-of .ensures .0) (c .before .before .before .before .before .before .before .leaf-words .ensures) in let found = body-found (leafBody (c .before .before .before .before .before .before .before .before .before .before .before .before .before .before .before .before .before .before .before .before .args .version) (letterOf (getD (c .before .before .before .before .before .before .before .before .before .before .before .before .before .before .before .before .before .before .before .before .args .contents .now) (4 * c .before .before .before .before .before .before .before .before .before .before .before .before .before .before .before .before .before .before .before .before .args .row) 0))) (known-below w32 (c .before .before .before .before .before .before .before .before .before .before .before .before .before .before .before .before .before .before .before .before .args .words .now) (c .before .before .before .before .before .before .before .before .before .before .before .before .before .before .before .before .before .before .shared-slice-known2 .given)) refl (c .before .before .before .before .before .before .before .before .before .before .before .before .before .before .before .before .before .before .before .before .pre .0 .inside) laid (c .before .before .before .if3 .left) in walks-lost (leaf-wrong-row (c .before .before .before .before .before .before .before .before .before .before .before .before .before .before .before .before .before .before .before .before .args .contents .now) (c .before .before .before .before .before .before .before .before .before .before .before .before .before .before .before .before .before .before .before .before .args .words .now) (c .before .before .before .before .before .before .before .before .before .before .before .before .before .before .before .before .before .before .before .before .args .version) (c .before .before .before .before .before .before .before .before .before .before .before .before .before .before .before .before .before .before .before .before .args .parent) (c .before .before .before .before .before .before .before .before .before .before .before .before .before .before .before .before .before .before .before .before .args .row) (c .before .before .before .before .before .before .before .before .before .before .before .before .before .before .before .before .before .before .before .before .args .p) (c .before .before .before .before .before .before .before .before .before .before .before .before .before .before .before .before .before .before .before .before .pre .1) (omega (arith, c .before .before .before .before .before .before .before .before .before .before .before .before .before .before .before .if1 .left)) (omega (arith, c .before .before .before .before .before .before .before .before .before .before .before .before .before .before .if2 .left)) (record { number = 0; at = c .before .before .before .before .before .before .before .before .before .before .before .before .before .before .before .before .before .before .before .before .args .p .at; to = c .before .before .before .before .before .before .before .before .before .before .before .before .before .before .before .before .before .before .before .before .args .p .to + 2 }) refl (found .1) (sym (c .before .before .is-row .ensures) ∙ c .before .if4 .left)) (c .lost4 .ensures) (c .before .before .before .before .before .before .out2 .given ∙ c .before .before .before .before .before .before .before .before .before .before .out .given)
+returns-5 c =
+    let at-if4 = c .before in
+    let at-is-row = at-if4 .before in
+    let at-if3 = at-is-row .before in
+    let at-out2 = at-if3 .before .before .before in
+    let at-leaf-words = at-out2 .before in
+    let at-out = at-leaf-words .before .before .before in
+    let at-letter-of = at-out .before .before .before in
+    let at-if2 = at-letter-of .before in
+    let at-if1 = at-if2 .before in
+    let at-shared-slice-known2 = at-if1 .before .before .before in
+    let at-args = at-shared-slice-known2 .before .before in
+    λ deep. let laid = same-letter (at-args .args .version) (at-letter-of .letter-of .ensures .0) (at-leaf-words .leaf-words .ensures) in let found = body-found (leafBody (at-args .args .version) (letterOf (getD (at-args .args .contents .now) (4 * at-args .args .row) 0))) (known-below w32 (at-args .args .words .now) (at-shared-slice-known2 .shared-slice-known2 .given)) refl (at-args .pre .0 .inside) laid (at-if3 .if3 .left) in walks-lost (leaf-wrong-row (at-args .args .contents .now) (at-args .args .words .now) (at-args .args .version) (at-args .args .parent) (at-args .args .row) (at-args .args .p) (at-args .pre .1) (omega (arith, at-if1 .if1 .left)) (omega (arith, at-if2 .if2 .left)) (record { number = 0; at = at-args .args .p .at; to = at-args .args .p .to + 2 }) refl (found .1) (sym (at-is-row .is-row .ensures) ∙ at-if4 .if4 .left)) (c .lost4 .ensures) (at-out2 .out2 .given ∙ at-out .out .given)
 
 pub leaf-spec : {M : Type 1} → statement M
 leaf-spec =

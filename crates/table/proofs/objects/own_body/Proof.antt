@@ -29,7 +29,12 @@ lost-requires c κs = search needs
 
 -- src/objects.rt:127:9
 returns : tie.Need-returns
-returns c = walks-lost (count-unfound (c .before .before .before .before .before .before .before .before .args .version) (c .before .before .before .before .before .before .before .before .args .parent) (c .before .before .before .before .before .before .before .before .args .members) (c .before .before .before .before .before .before .before .before .args .contents .now) (c .before .before .before .before .before .before .before .before .args .words .now) (c .before .before .before .before .before .before .before .before .args .row) (c .before .before .before .before .before .before .before .before .args .next) (c .before .before .before .before .before .before .before .before .args .p) (body-unfound (field memberCount) (known-below w32 (c .before .before .before .before .before .before .before .before .args .words .now) (c .before .before .before .before .before .before .shared-slice-known2 .given)) (c .before .before .before .before .before .before .before .before .pre .0 .going) (c .before .before .before .before .before .before .before .before .pre .0 .inside) (field-laid (c .before .before .before .before .count-word .ensures .asked)) (c .before .if1 .taken))) (c .lost .ensures) refl
+returns c =
+    let at-if1 = c .before in
+    let at-count-word = at-if1 .before .before .before in
+    let at-shared-slice-known2 = at-count-word .before .before in
+    let at-args = at-shared-slice-known2 .before .before in
+    walks-lost (count-unfound (at-args .args .version) (at-args .args .parent) (at-args .args .members) (at-args .args .contents .now) (at-args .args .words .now) (at-args .args .row) (at-args .args .next) (at-args .args .p) (body-unfound (field memberCount) (known-below w32 (at-args .args .words .now) (at-shared-slice-known2 .shared-slice-known2 .given)) (at-args .pre .0 .going) (at-args .pre .0 .inside) (field-laid (at-count-word .count-word .ensures .asked)) (at-if1 .if1 .taken))) (c .lost .ensures) refl
 
 -- src/objects.rt:129:9
 end-words-requires : tie.Need-end-words-requires
@@ -45,7 +50,15 @@ same-length c = search needs
 
 -- src/objects.rt:140:9
 returns-2 : tie.Need-returns-2
-returns-2 c = let counted = field-found memberCount (known-below w32 (c .before .before .before .before .before .before .before .before .before .before .before .before .before .before .args .words .now) (c .before .before .before .before .before .before .before .before .before .before .before .before .shared-slice-known2 .given)) (c .before .before .before .before .before .before .before .before .before .before .before .before .before .before .pre .0 .going) (c .before .before .before .before .before .before .before .before .before .before .before .before .before .before .pre .0 .inside) (c .before .before .before .before .before .before .before .before .before .before .count-word .ensures .asked) (c .before .before .before .before .before .before .before .if1 .left) in walks-lost (end-unfound (c .before .before .before .before .before .before .before .before .before .before .before .before .before .before .args .version) (c .before .before .before .before .before .before .before .before .before .before .before .before .before .before .args .parent) (c .before .before .before .before .before .before .before .before .before .before .before .before .before .before .args .members) (c .before .before .before .before .before .before .before .before .before .before .before .before .before .before .args .contents .now) (c .before .before .before .before .before .before .before .before .before .before .before .before .before .before .args .words .now) (c .before .before .before .before .before .before .before .before .before .before .before .before .before .before .args .row) (c .before .before .before .before .before .before .before .before .before .before .before .before .before .before .args .next) (c .before .before .before .before .before .before .before .before .before .before .before .before .before .before .args .p) counted (record { number = 0; at = c .before .before .before .before .before .before .before .before .before .before .count-word .result .pass .at; to = c .before .before .before .before .before .before .before .before .before .before .before .before .before .before .args .p .to }) refl (body-unfound (objectEnd (c .before .before .before .before .before .before .before .before .before .before .before .before .before .before .args .version)) (known-below w32 (c .before .before .before .before .before .before .before .before .before .before .before .before .before .before .args .words .now) (c .before .before .before .before .before .before .before .before .before .before .before .before .shared-slice-known2 .given)) refl (counted .inside) (c .before .before .before .before .before .end-words .ensures) (c .before .if2 .taken))) (c .lost2 .ensures) (c .before .before .before .before .out .given)
+returns-2 c =
+    let at-if2 = c .before in
+    let at-out = at-if2 .before .before .before in
+    let at-end-words = at-out .before in
+    let at-if1 = at-end-words .before .before in
+    let at-count-word = at-if1 .before .before .before in
+    let at-shared-slice-known2 = at-count-word .before .before in
+    let at-args = at-shared-slice-known2 .before .before in
+    let counted = field-found memberCount (known-below w32 (at-args .args .words .now) (at-shared-slice-known2 .shared-slice-known2 .given)) (at-args .pre .0 .going) (at-args .pre .0 .inside) (at-count-word .count-word .ensures .asked) (at-if1 .if1 .left) in walks-lost (end-unfound (at-args .args .version) (at-args .args .parent) (at-args .args .members) (at-args .args .contents .now) (at-args .args .words .now) (at-args .args .row) (at-args .args .next) (at-args .args .p) counted (record { number = 0; at = at-count-word .count-word .result .pass .at; to = at-args .args .p .to }) refl (body-unfound (objectEnd (at-args .args .version)) (known-below w32 (at-args .args .words .now) (at-shared-slice-known2 .shared-slice-known2 .given)) refl (counted .inside) (at-end-words .end-words .ensures) (at-if2 .if2 .taken))) (c .lost2 .ensures) (at-out .out .given)
 
 -- src/objects.rt:143:9
 lost-requires-3 : tie.Need-lost-requires-3
@@ -57,11 +70,27 @@ same-length-2 c = search needs
 
 -- src/objects.rt:143:9
 returns-3 : tie.Need-returns-3
-returns-3 c = let counted = field-found memberCount (known-below w32 (c .before .before .before .before .before .before .before .before .before .before .before .before .before .before .before .args .words .now) (c .before .before .before .before .before .before .before .before .before .before .before .before .before .shared-slice-known2 .given)) (c .before .before .before .before .before .before .before .before .before .before .before .before .before .before .before .pre .0 .going) (c .before .before .before .before .before .before .before .before .before .before .before .before .before .before .before .pre .0 .inside) (c .before .before .before .before .before .before .before .before .before .before .before .count-word .ensures .asked) (c .before .before .before .before .before .before .before .before .if1 .left) in let ended = body-found (objectEnd (c .before .before .before .before .before .before .before .before .before .before .before .before .before .before .before .args .version)) (known-below w32 (c .before .before .before .before .before .before .before .before .before .before .before .before .before .before .before .args .words .now) (c .before .before .before .before .before .before .before .before .before .before .before .before .before .shared-slice-known2 .given)) refl (counted .inside) (c .before .before .before .before .before .before .end-words .ensures) (c .before .before .if2 .left) in walks-lost (wrong-count (c .before .before .before .before .before .before .before .before .before .before .before .before .before .before .before .args .version) (c .before .before .before .before .before .before .before .before .before .before .before .before .before .before .before .args .parent) (c .before .before .before .before .before .before .before .before .before .before .before .before .before .before .before .args .members) (c .before .before .before .before .before .before .before .before .before .before .before .before .before .before .before .args .contents .now) (c .before .before .before .before .before .before .before .before .before .before .before .before .before .before .before .args .words .now) (c .before .before .before .before .before .before .before .before .before .before .before .before .before .before .before .args .row) (c .before .before .before .before .before .before .before .before .before .before .before .before .before .before .before .args .next) (c .before .before .before .before .before .before .before .before .before .before .before .before .before .before .before .args .p) counted (record { number = 0; at = c .before .before .before .before .before .before .before .before .before .before .before .count-word .result .pass .at; to = c .before .before .before .before .before .before .before .before .before .before .before .before .before .before .before .args .p .to }) refl (ended .1) (c .before .if3 .taken)) (c .lost3 .ensures) (c .before .before .before .before .before .out .given)
+returns-3 c =
+    let at-if3 = c .before in
+    let at-if2 = at-if3 .before in
+    let at-out = at-if2 .before .before .before in
+    let at-end-words = at-out .before in
+    let at-if1 = at-end-words .before .before in
+    let at-count-word = at-if1 .before .before .before in
+    let at-shared-slice-known2 = at-count-word .before .before in
+    let at-args = at-shared-slice-known2 .before .before in
+    let counted = field-found memberCount (known-below w32 (at-args .args .words .now) (at-shared-slice-known2 .shared-slice-known2 .given)) (at-args .pre .0 .going) (at-args .pre .0 .inside) (at-count-word .count-word .ensures .asked) (at-if1 .if1 .left) in let ended = body-found (objectEnd (at-args .args .version)) (known-below w32 (at-args .args .words .now) (at-shared-slice-known2 .shared-slice-known2 .given)) refl (counted .inside) (at-end-words .end-words .ensures) (at-if2 .if2 .left) in walks-lost (wrong-count (at-args .args .version) (at-args .args .parent) (at-args .args .members) (at-args .args .contents .now) (at-args .args .words .now) (at-args .args .row) (at-args .args .next) (at-args .args .p) counted (record { number = 0; at = at-count-word .count-word .result .pass .at; to = at-args .args .p .to }) refl (ended .1) (at-if3 .if3 .taken)) (c .lost3 .ensures) (at-out .out .given)
 
 -- src/objects.rt:146:45
 sub-is-row : tie.Need-sub-is-row
-sub-is-row c = let counted = field-found memberCount (known-below w32 (c .before .before .before .before .before .before .before .before .before .before .before .before .before .before .args .words .now) (c .before .before .before .before .before .before .before .before .before .before .before .before .shared-slice-known2 .given)) (c .before .before .before .before .before .before .before .before .before .before .before .before .before .before .pre .0 .going) (c .before .before .before .before .before .before .before .before .before .before .before .before .before .before .pre .0 .inside) (c .before .before .before .before .before .before .before .before .before .before .count-word .ensures .asked) (c .before .before .before .before .before .before .before .if1 .left) in let ended = body-found (objectEnd (c .before .before .before .before .before .before .before .before .before .before .before .before .before .before .args .version)) (known-below w32 (c .before .before .before .before .before .before .before .before .before .before .before .before .before .before .args .words .now) (c .before .before .before .before .before .before .before .before .before .before .before .before .shared-slice-known2 .given)) refl (counted .inside) (c .before .before .before .before .before .end-words .ensures) (c .before .if2 .left) in end-forward (c .before .before .before .before .before .before .before .before .before .before .before .before .before .before .args .version) (c .before .before .before .before .before .before .before .before .before .before .before .before .before .before .args .parent) (c .before .before .before .before .before .before .before .before .before .before .before .before .before .before .args .members) (c .before .before .before .before .before .before .before .before .before .before .before .before .before .before .args .contents .now) (c .before .before .before .before .before .before .before .before .before .before .before .before .before .before .args .words .now) (c .before .before .before .before .before .before .before .before .before .before .before .before .before .before .args .row) (c .before .before .before .before .before .before .before .before .before .before .before .before .before .before .args .next) (c .before .before .before .before .before .before .before .before .before .before .before .before .before .before .args .p) counted (record { number = 0; at = c .before .before .before .before .before .before .before .before .before .before .count-word .result .pass .at; to = c .before .before .before .before .before .before .before .before .before .before .before .before .before .before .args .p .to }) refl (ended .1)
+sub-is-row c =
+    let at-if2 = c .before in
+    let at-end-words = at-if2 .before .before .before .before in
+    let at-if1 = at-end-words .before .before in
+    let at-count-word = at-if1 .before .before .before in
+    let at-shared-slice-known2 = at-count-word .before .before in
+    let at-args = at-shared-slice-known2 .before .before in
+    let counted = field-found memberCount (known-below w32 (at-args .args .words .now) (at-shared-slice-known2 .shared-slice-known2 .given)) (at-args .pre .0 .going) (at-args .pre .0 .inside) (at-count-word .count-word .ensures .asked) (at-if1 .if1 .left) in let ended = body-found (objectEnd (at-args .args .version)) (known-below w32 (at-args .args .words .now) (at-shared-slice-known2 .shared-slice-known2 .given)) refl (counted .inside) (at-end-words .end-words .ensures) (at-if2 .if2 .left) in end-forward (at-args .args .version) (at-args .args .parent) (at-args .args .members) (at-args .args .contents .now) (at-args .args .words .now) (at-args .args .row) (at-args .args .next) (at-args .args .p) counted (record { number = 0; at = at-count-word .count-word .result .pass .at; to = at-args .args .p .to }) refl (ended .1)
 
 -- src/objects.rt:146:8
 is-row-requires : tie.Need-is-row-requires
@@ -73,7 +102,16 @@ same-length-3 c = search needs
 
 -- src/objects.rt:147:9
 returns-4 : tie.Need-returns-4
-returns-4 c = let counted = field-found memberCount (known-below w32 (c .before .before .before .before .before .before .before .before .before .before .before .before .before .before .before .before .args .words .now) (c .before .before .before .before .before .before .before .before .before .before .before .before .before .before .shared-slice-known2 .given)) (c .before .before .before .before .before .before .before .before .before .before .before .before .before .before .before .before .pre .0 .going) (c .before .before .before .before .before .before .before .before .before .before .before .before .before .before .before .before .pre .0 .inside) (c .before .before .before .before .before .before .before .before .before .before .before .before .count-word .ensures .asked) (c .before .before .before .before .before .before .before .before .before .if1 .left) in let ended = body-found (objectEnd (c .before .before .before .before .before .before .before .before .before .before .before .before .before .before .before .before .args .version)) (known-below w32 (c .before .before .before .before .before .before .before .before .before .before .before .before .before .before .before .before .args .words .now) (c .before .before .before .before .before .before .before .before .before .before .before .before .before .before .shared-slice-known2 .given)) refl (counted .inside) (c .before .before .before .before .before .before .before .end-words .ensures) (c .before .before .before .if2 .left) in own-right (c .before .before .before .before .before .before .before .before .before .before .before .before .before .before .before .before .args .version) (c .before .before .before .before .before .before .before .before .before .before .before .before .before .before .before .before .args .parent) (c .before .before .before .before .before .before .before .before .before .before .before .before .before .before .before .before .args .members) (c .before .before .before .before .before .before .before .before .before .before .before .before .before .before .before .before .args .contents .now) (c .before .before .before .before .before .before .before .before .before .before .before .before .before .before .before .before .args .words .now) (c .before .before .before .before .before .before .before .before .before .before .before .before .before .before .before .before .args .row) (c .before .before .before .before .before .before .before .before .before .before .before .before .before .before .before .before .args .next) (c .before .before .before .before .before .before .before .before .before .before .before .before .before .before .before .before .args .p) counted (record { number = 0; at = c .before .before .before .before .before .before .before .before .before .before .before .before .count-word .result .pass .at; to = c .before .before .before .before .before .before .before .before .before .before .before .before .before .before .before .before .args .p .to }) refl (ended .1) (c .before .before .before .before .before .before .before .before .before .before .before .before .before .before .before .before .pre .0) (c .before .before .if3 .left) refl (sym (c .before .is-row .ensures) ∙ c .if4 .taken) (c .before .before .before .if2 .left)
+returns-4 c =
+    let at-is-row = c .before in
+    let at-if3 = at-is-row .before in
+    let at-if2 = at-if3 .before in
+    let at-end-words = at-if2 .before .before .before .before in
+    let at-if1 = at-end-words .before .before in
+    let at-count-word = at-if1 .before .before .before in
+    let at-shared-slice-known2 = at-count-word .before .before in
+    let at-args = at-shared-slice-known2 .before .before in
+    let counted = field-found memberCount (known-below w32 (at-args .args .words .now) (at-shared-slice-known2 .shared-slice-known2 .given)) (at-args .pre .0 .going) (at-args .pre .0 .inside) (at-count-word .count-word .ensures .asked) (at-if1 .if1 .left) in let ended = body-found (objectEnd (at-args .args .version)) (known-below w32 (at-args .args .words .now) (at-shared-slice-known2 .shared-slice-known2 .given)) refl (counted .inside) (at-end-words .end-words .ensures) (at-if2 .if2 .left) in own-right (at-args .args .version) (at-args .args .parent) (at-args .args .members) (at-args .args .contents .now) (at-args .args .words .now) (at-args .args .row) (at-args .args .next) (at-args .args .p) counted (record { number = 0; at = at-count-word .count-word .result .pass .at; to = at-args .args .p .to }) refl (ended .1) (at-args .pre .0) (at-if3 .if3 .left) refl (sym (at-is-row .is-row .ensures) ∙ c .if4 .taken) (at-if2 .if2 .left)
 
 -- src/objects.rt:152:5
 lost-requires-4 : tie.Need-lost-requires-4
@@ -85,7 +123,17 @@ same-length-4 c = search needs
 
 -- src/objects.rt:106:1
 returns-5 : tie.Need-returns-5
-returns-5 c = let counted = field-found memberCount (known-below w32 (c .before .before .before .before .before .before .before .before .before .before .before .before .before .before .before .before .before .args .words .now) (c .before .before .before .before .before .before .before .before .before .before .before .before .before .before .before .shared-slice-known2 .given)) (c .before .before .before .before .before .before .before .before .before .before .before .before .before .before .before .before .before .pre .0 .going) (c .before .before .before .before .before .before .before .before .before .before .before .before .before .before .before .before .before .pre .0 .inside) (c .before .before .before .before .before .before .before .before .before .before .before .before .before .count-word .ensures .asked) (c .before .before .before .before .before .before .before .before .before .before .if1 .left) in let ended = body-found (objectEnd (c .before .before .before .before .before .before .before .before .before .before .before .before .before .before .before .before .before .args .version)) (known-below w32 (c .before .before .before .before .before .before .before .before .before .before .before .before .before .before .before .before .before .args .words .now) (c .before .before .before .before .before .before .before .before .before .before .before .before .before .before .before .shared-slice-known2 .given)) refl (counted .inside) (c .before .before .before .before .before .before .before .before .end-words .ensures) (c .before .before .before .before .if2 .left) in walks-lost (wrong-row (c .before .before .before .before .before .before .before .before .before .before .before .before .before .before .before .before .before .args .version) (c .before .before .before .before .before .before .before .before .before .before .before .before .before .before .before .before .before .args .parent) (c .before .before .before .before .before .before .before .before .before .before .before .before .before .before .before .before .before .args .members) (c .before .before .before .before .before .before .before .before .before .before .before .before .before .before .before .before .before .args .contents .now) (c .before .before .before .before .before .before .before .before .before .before .before .before .before .before .before .before .before .args .words .now) (c .before .before .before .before .before .before .before .before .before .before .before .before .before .before .before .before .before .args .row) (c .before .before .before .before .before .before .before .before .before .before .before .before .before .before .before .before .before .args .next) (c .before .before .before .before .before .before .before .before .before .before .before .before .before .before .before .before .before .args .p) counted (record { number = 0; at = c .before .before .before .before .before .before .before .before .before .before .before .before .before .count-word .result .pass .at; to = c .before .before .before .before .before .before .before .before .before .before .before .before .before .before .before .before .before .args .p .to }) refl (ended .1) (sym (c .before .before .is-row .ensures) ∙ c .before .if4 .left)) (c .lost4 .ensures) (c .before .before .before .before .before .before .before .out .given)
+returns-5 c =
+    let at-if4 = c .before in
+    let at-is-row = at-if4 .before in
+    let at-if2 = at-is-row .before .before in
+    let at-out = at-if2 .before .before .before in
+    let at-end-words = at-out .before in
+    let at-if1 = at-end-words .before .before in
+    let at-count-word = at-if1 .before .before .before in
+    let at-shared-slice-known2 = at-count-word .before .before in
+    let at-args = at-shared-slice-known2 .before .before in
+    let counted = field-found memberCount (known-below w32 (at-args .args .words .now) (at-shared-slice-known2 .shared-slice-known2 .given)) (at-args .pre .0 .going) (at-args .pre .0 .inside) (at-count-word .count-word .ensures .asked) (at-if1 .if1 .left) in let ended = body-found (objectEnd (at-args .args .version)) (known-below w32 (at-args .args .words .now) (at-shared-slice-known2 .shared-slice-known2 .given)) refl (counted .inside) (at-end-words .end-words .ensures) (at-if2 .if2 .left) in walks-lost (wrong-row (at-args .args .version) (at-args .args .parent) (at-args .args .members) (at-args .args .contents .now) (at-args .args .words .now) (at-args .args .row) (at-args .args .next) (at-args .args .p) counted (record { number = 0; at = at-count-word .count-word .result .pass .at; to = at-args .args .p .to }) refl (ended .1) (sym (at-is-row .is-row .ensures) ∙ at-if4 .if4 .left)) (c .lost4 .ensures) (at-out .out .given)
 
 pub own-body-spec : {M : Type 1} → statement M
 own-body-spec =

@@ -27,7 +27,9 @@ shared-slice-read-if1 c = search needs
 
 -- src/rows.rt:24:9
 returns : tie.Need-returns
-returns c = rw (row-equal (c .before .before .args .contents .now) (c .before .before .args .place) (c .before .before .pre) (c .before .before .args .kind) (c .before .before .args .parent) (c .before .before .args .start) (c .before .before .args .size), ne-eqb (getD (c .before .before .args .contents .now) (4 * c .before .before .args .place) 0) (c .before .before .args .kind) (c .if1 .taken)) refl
+returns c =
+    let at-args = c .before .before in
+    rw (row-equal (at-args .args .contents .now) (at-args .args .place) (at-args .pre) (at-args .args .kind) (at-args .args .parent) (at-args .args .start) (at-args .args .size), ne-eqb (getD (at-args .args .contents .now) (4 * at-args .args .place) 0) (at-args .args .kind) (c .if1 .taken)) refl
 
 -- src/rows.rt:26:17
 add-if2 : tie.Need-add-if2
@@ -43,7 +45,10 @@ shared-slice-read-if2 c = search needs
 
 -- src/rows.rt:27:9
 returns-2 : tie.Need-returns-2
-returns-2 c = rw (row-equal (c .before .before .before .before .args .contents .now) (c .before .before .before .before .args .place) (c .before .before .before .before .pre) (c .before .before .before .before .args .kind) (c .before .before .before .before .args .parent) (c .before .before .before .before .args .start) (c .before .before .before .before .args .size), eq-eqb (getD (c .before .before .before .before .args .contents .now) (4 * c .before .before .before .before .args .place) 0) (c .before .before .before .before .args .kind) (c .before .before .if1 .left), ne-eqb (getD (c .before .before .before .before .args .contents .now) (4 * c .before .before .before .before .args .place + 1) 0) (c .before .before .before .before .args .parent) (c .if2 .taken)) refl
+returns-2 c =
+    let at-if1 = c .before .before in
+    let at-args = at-if1 .before .before in
+    rw (row-equal (at-args .args .contents .now) (at-args .args .place) (at-args .pre) (at-args .args .kind) (at-args .args .parent) (at-args .args .start) (at-args .args .size), eq-eqb (getD (at-args .args .contents .now) (4 * at-args .args .place) 0) (at-args .args .kind) (at-if1 .if1 .left), ne-eqb (getD (at-args .args .contents .now) (4 * at-args .args .place + 1) 0) (at-args .args .parent) (c .if2 .taken)) refl
 
 -- src/rows.rt:29:17
 add-if3 : tie.Need-add-if3
@@ -63,7 +68,11 @@ cast-if3 c = let fit = c .shared-slice-known3 .given (4 * c .before .before .bef
 
 -- src/rows.rt:30:9
 returns-3 : tie.Need-returns-3
-returns-3 c = rw (row-equal (c .before .before .before .before .before .before .args .contents .now) (c .before .before .before .before .before .before .args .place) (c .before .before .before .before .before .before .pre) (c .before .before .before .before .before .before .args .kind) (c .before .before .before .before .before .before .args .parent) (c .before .before .before .before .before .before .args .start) (c .before .before .before .before .before .before .args .size), eq-eqb (getD (c .before .before .before .before .before .before .args .contents .now) (4 * c .before .before .before .before .before .before .args .place) 0) (c .before .before .before .before .before .before .args .kind) (c .before .before .before .before .if1 .left), eq-eqb (getD (c .before .before .before .before .before .before .args .contents .now) (4 * c .before .before .before .before .before .before .args .place + 1) 0) (c .before .before .before .before .before .before .args .parent) (c .before .before .if2 .left), ne-eqb (getD (c .before .before .before .before .before .before .args .contents .now) (4 * c .before .before .before .before .before .before .args .place + 2) 0) (c .before .before .before .before .before .before .args .start) (c .if3 .taken)) refl
+returns-3 c =
+    let at-if2 = c .before .before in
+    let at-if1 = at-if2 .before .before in
+    let at-args = at-if1 .before .before in
+    rw (row-equal (at-args .args .contents .now) (at-args .args .place) (at-args .pre) (at-args .args .kind) (at-args .args .parent) (at-args .args .start) (at-args .args .size), eq-eqb (getD (at-args .args .contents .now) (4 * at-args .args .place) 0) (at-args .args .kind) (at-if1 .if1 .left), eq-eqb (getD (at-args .args .contents .now) (4 * at-args .args .place + 1) 0) (at-args .args .parent) (at-if2 .if2 .left), ne-eqb (getD (at-args .args .contents .now) (4 * at-args .args .place + 2) 0) (at-args .args .start) (c .if3 .taken)) refl
 
 -- src/rows.rt:32:14
 add-result : tie.Need-add-result
@@ -79,11 +88,18 @@ shared-slice-read-result c = search needs
 
 -- src/rows.rt:32:5
 cast-result : tie.Need-cast-result
-cast-result c = let fit = c .shared-slice-known4 .given (4 * c .before .before .before .before .before .before .before .args .place + 3) in omega (arith, fit)
+cast-result c =
+    let at-args = c .before .before .before .before .before .before .before in
+    let fit = c .shared-slice-known4 .given (4 * at-args .args .place + 3) in omega (arith, fit)
 
 -- src/rows.rt:11:1
 returns-4 : tie.Need-returns-4
-returns-4 c = rw (row-equal (c .before .before .before .before .before .before .before .args .contents .now) (c .before .before .before .before .before .before .before .args .place) (c .before .before .before .before .before .before .before .pre) (c .before .before .before .before .before .before .before .args .kind) (c .before .before .before .before .before .before .before .args .parent) (c .before .before .before .before .before .before .before .args .start) (c .before .before .before .before .before .before .before .args .size), eq-eqb (getD (c .before .before .before .before .before .before .before .args .contents .now) (4 * c .before .before .before .before .before .before .before .args .place) 0) (c .before .before .before .before .before .before .before .args .kind) (c .before .before .before .before .before .if1 .left), eq-eqb (getD (c .before .before .before .before .before .before .before .args .contents .now) (4 * c .before .before .before .before .before .before .before .args .place + 1) 0) (c .before .before .before .before .before .before .before .args .parent) (c .before .before .before .if2 .left), eq-eqb (getD (c .before .before .before .before .before .before .before .args .contents .now) (4 * c .before .before .before .before .before .before .before .args .place + 2) 0) (c .before .before .before .before .before .before .before .args .start) (c .before .if3 .left)) (sym (and-true (eqb (getD (c .before .before .before .before .before .before .before .args .contents .now) (4 * c .before .before .before .before .before .before .before .args .place + 3) 0) (c .before .before .before .before .before .before .before .args .size))))
+returns-4 c =
+    let at-if3 = c .before in
+    let at-if2 = at-if3 .before .before in
+    let at-if1 = at-if2 .before .before in
+    let at-args = at-if1 .before .before in
+    rw (row-equal (at-args .args .contents .now) (at-args .args .place) (at-args .pre) (at-args .args .kind) (at-args .args .parent) (at-args .args .start) (at-args .args .size), eq-eqb (getD (at-args .args .contents .now) (4 * at-args .args .place) 0) (at-args .args .kind) (at-if1 .if1 .left), eq-eqb (getD (at-args .args .contents .now) (4 * at-args .args .place + 1) 0) (at-args .args .parent) (at-if2 .if2 .left), eq-eqb (getD (at-args .args .contents .now) (4 * at-args .args .place + 2) 0) (at-args .args .start) (at-if3 .if3 .left)) (sym (and-true (eqb (getD (at-args .args .contents .now) (4 * at-args .args .place + 3) 0) (at-args .args .size))))
 
 pub is-row-spec : {M : Type 1} → statement M
 is-row-spec =

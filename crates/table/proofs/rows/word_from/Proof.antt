@@ -14,7 +14,10 @@ word-or-zero-requires c κs = search needs
 
 -- src/rows.rt:62:9
 returns : tie.Need-returns
-returns c = word-behind (c .before .before .before .args .words .now) (c .before .before .before .args .at) (c .before .before .before .args .start) (c .before .before .before .args .start) (c .word-or-zero .result) (omega (arith, c .before .if1 .taken)) (c .word-or-zero .ensures)
+returns c =
+    let at-if1 = c .before in
+    let at-args = at-if1 .before .before in
+    word-behind (at-args .args .words .now) (at-args .args .at) (at-args .args .start) (at-args .args .start) (c .word-or-zero .result) (omega (arith, at-if1 .if1 .taken)) (c .word-or-zero .ensures)
 
 -- src/rows.rt:64:5
 word-or-zero-requires-2 : tie.Need-word-or-zero-requires-2
@@ -22,7 +25,10 @@ word-or-zero-requires-2 c κs = search needs
 
 -- src/rows.rt:58:1
 returns-2 : tie.Need-returns-2
-returns-2 c = word-behind (c .before .before .before .args .words .now) (c .before .before .before .args .at) (c .before .before .before .args .start) (c .before .before .before .args .at) (c .word-or-zero2 .result) (omega (arith, c .before .if1 .left)) (c .word-or-zero2 .ensures)
+returns-2 c =
+    let at-if1 = c .before in
+    let at-args = at-if1 .before .before in
+    word-behind (at-args .args .words .now) (at-args .args .at) (at-args .args .start) (at-args .args .at) (c .word-or-zero2 .result) (omega (arith, at-if1 .if1 .left)) (c .word-or-zero2 .ensures)
 
 pub word-from-spec : {M : Type 1} → statement M
 word-from-spec =
