@@ -143,5 +143,5 @@ fn the_text_to_show_is_that_very_run() {
     let (alternative, plain) = ([1, 2], [3]);
     assert!(std::ptr::eq(shown(&alternative, &plain), &alternative[..]));
     assert!(std::ptr::eq(shown(&[], &plain), &plain[..]));
-    assert_eq!(shown(&[], &[]), &[0u32; 0]);
+    assert_eq!(shown::<u32>(&[], &[]), &[0; 0]);
 }
