@@ -1,0 +1,95 @@
+-- What is wrong with a field's number, in any way.
+use mathlib.Core.Path.{_≡_, refl, sym, ap, _∙_}
+use mathlib.Core.Logic.{_⊎_, inl, inr}
+use mathlib.Core.Bool.{Bool, true, false, cond}
+use Prim.Native.Nat.{ℕ, _+_, _*_, _^_, _<_, _≤_}
+use native.Mathlib.Omega.{arith}
+use lib.Dec.{ltb}
+use borrow.Author.Tests.{lt-ltb, le-ltb, le-leb, ltb-true, ltb-false}
+use mir.Syntax.{Width, w8, w32}
+use mir.Val.{toZ, hbits}
+use Rattle.format.specs.Kind.{Kind, Shape, Allowed, size, values, flag, byte, char, integer, float, double, stringLength, stringChar, chars}
+use Rattle.format.specs.LiteralLaws.{faultOf}
+use Rattle.drawing.specs.Fields as F
+use Rattle.drawing.specs.Fields.{unless, inRange}
+use Rattle.drawing.specs.FieldLaws.{in-range}
+use Rattle.ways.specs.Way.{Way, Exact, Blind, wide}
+
+-- This number tells what is wrong with a value in a field of this kind, 0 for nothing: refused with it, a pass comes to what its script comes to.
+pub record Judges (W : Way) (k : Kind) (v n : ℕ) : Type 0 where
+  pub fine : n ≡ 0 → Allowed k v
+  pub some : 0 < n → 0 < faultOf (W .source .meaningless) k v
+  pub number-is : 0 < n → W .number (faultOf (W .source .meaningless) k v) ≡ W .number n
+
+-- A shape has no more values than its bytes hold.
+pub values-hold : (s : Shape) → values s ≤ 256 ^ size s
+values-hold flag = omega arith
+values-hold byte = omega arith
+values-hold char = omega arith
+values-hold integer = omega arith
+values-hold float = omega arith
+values-hold double = omega arith
+values-hold stringLength = omega arith
+values-hold (stringChar last) = omega arith
+values-hold (chars n) = omega arith
+
+module _ (k : Kind) (v : ℕ) where
+  no-fault : faultOf 5 k v ≡ 0 → Allowed k v
+  no-fault e = by (ltb v (values (k .shape))) refl
+    where
+      by : (b : Bool) → ltb v (values (k .shape)) ≡ b → Allowed k v
+      by true h = record { fits = ltb-true v (values (k .shape)) h; faultless = sym (ap (λ b. cond b (k .fault v) 5) h) ∙ e }
+      by false h = let z : 5 ≡ 0 = sym (ap (λ b. cond b (k .fault v) 5) h) ∙ e in absurd (omega arith)
+
+  -- A number that has a fault in a file has one in any units.
+  some-fault : (x : ℕ) → 0 < x → (v < 256 ^ size (k .shape) → 0 < faultOf 5 k v) → 0 < faultOf x k v
+  some-fault x positive bad = by (ltb v (values (k .shape))) refl
+    where
+      by : (b : Bool) → ltb v (values (k .shape)) ≡ b → 0 < faultOf x k v
+      by true h =
+          let fits : v < values (k .shape) = ltb-true v (values (k .shape)) h in
+          let all = values-hold (k .shape) in
+          let f : 0 < cond (ltb v (values (k .shape))) (k .fault v) 5 = bad (omega arith) in
+          let g : 0 < k .fault v = rw h at f in
+          rw h g
+      by false h = rw h positive
+
+  -- The number that a file has for it, or some number where a file's field could not be it.
+  pub judged : (W : Way) {n : ℕ} → v < W .source .base ^ wide W (size (k .shape)) → (v < 256 ^ size (k .shape) → n ≡ faultOf 5 k v) → (256 ^ size (k .shape) ≤ v → 0 < n) → Judges W k v n
+  judged W {n} small is over =
+      record {
+        fine = λ e. by-size e (ltb v (256 ^ size (k .shape))) refl;
+        some = λ h. some-fault (W .source .meaningless) (W .some) (λ fits. let i = is fits in omega arith);
+        number-is = λ h. by (W .tells);
+      }
+    where
+      by-size : n ≡ 0 → (b : Bool) → ltb v (256 ^ size (k .shape)) ≡ b → Allowed k v
+      by-size e true h = no-fault (sym (is (ltb-true v (256 ^ size (k .shape)) h)) ∙ e)
+      by-size e false h = let o = over (ltb-false v (256 ^ size (k .shape)) h) in absurd (omega arith)
+
+      by : Exact (W .source) ⊎ Blind (W .number) (W .place) → W .number (faultOf (W .source .meaningless) k v) ≡ W .number n
+      by (inl exact) =
+          let holds = exact .holds (size (k .shape)) in
+          let fits : v < 256 ^ size (k .shape) = omega arith in
+          ap (λ x. W .number (faultOf x k v)) (exact .meaningless-is) ∙ ap (W .number) (sym (is fits))
+      by (inr blind) = blind .one-number (faultOf (W .source .meaningless) k v) n
+
+  -- A value of its shape, with the kind's own fault.
+  pub own-fault : (W : Way) {n : ℕ} → v < values (k .shape) → v < W .source .base ^ wide W (size (k .shape)) → n ≡ k .fault v → Judges W k v n
+  own-fault W {n} fits small is =
+      let all = values-hold (k .shape) in
+      let same : faultOf 5 k v ≡ k .fault v = ap (λ b. cond b (k .fault v) 5) (lt-ltb v (values (k .shape)) fits) in
+      judged W small (λ h. is ∙ sym same) (λ h. absurd (omega arith))
+
+-- ---- ranges
+
+-- The fault of a value that has to lie in a range.
+pub record Between (low high fault v n : ℕ) : Type 0 where
+  pub inside : n ≡ 0 → (low ≤ v) × (v ≤ high)
+  pub outside : 0 < n → (n ≡ fault) × ((v < low) ⊎ (high < v))
+
+-- A field of so many bytes, allowed from the one number to the other; outside, in a file, it has this fault.
+pub record Ranged (k : Kind) (bytes low high fault : ℕ) : Type 0 where
+  pub sized : size (k .shape) ≡ bytes
+  pub within : (v : ℕ) → low ≤ v → v ≤ high → Allowed k v
+  pub outside : (v : ℕ) → v < 256 ^ bytes → (v < low) ⊎ (high < v) → faultOf 5 k v ≡ fault
