@@ -4,3 +4,7 @@ pub mod Passes
 pub mod Carries
 pub mod LayoutLaws
 pub mod Faults
+pub mod Steps
+pub mod StepLaws
+pub mod Runs
+pub mod RunLaws
