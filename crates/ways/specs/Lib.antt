@@ -8,3 +8,4 @@ pub mod Steps
 pub mod StepLaws
 pub mod Runs
 pub mod RunLaws
+pub mod Moves

@@ -40,7 +40,7 @@ any-plain W us bytes k a =
     }
 
 -- Where refusals tell all, every field that is there is a value.
-exact-small : (W : Way) → Exact (W .source) → (size : ℕ) (us : List ℕ) (at count : ℕ) → Below (W .source .base) us → at + count * wide W size ≤ length us → AllSmall W size us at count
+pub exact-small : (W : Way) → Exact (W .source) → (size : ℕ) (us : List ℕ) (at count : ℕ) → Below (W .source .base) us → at + count * wide W size ≤ length us → AllSmall W size us at count
 exact-small W exact size us at count below inside i less =
     let w = wide W size in
     let more : suc i * w ≤ count * w = Nat.mul-le-mul-right w less in

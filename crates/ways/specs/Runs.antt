@@ -3,6 +3,7 @@ use mathlib.Core.Path.{_≡_}
 use mathlib.Core.Bool.{Bool, true, false}
 use Prim.Native.Nat.{ℕ, _+_, _*_, _^_, _<_, _≤_}
 use mathlib.Core.List.{List}
+use Rattle.format.specs.Digits.{Below}
 use Rattle.format.specs.Kind.{Kind, size, values}
 use Rattle.format.specs.Layout.{field, repeat}
 use Rattle.format.specs.RunLaws.{valuesAt, putMany}
@@ -23,7 +24,7 @@ AllSmall W size us at count = (i : ℕ) → i < count → valueAt W size us (at 
 
 -- What a test that one of them is no value says. Where there can be one, no refusal tells its place.
 pub record HasWide (W : Way) (size : ℕ) (us : List ℕ) (at count : ℕ) (r : Bool) : Type 0 where
-  pub none : r ≡ false → AllSmall W size us at count
+  pub none : r ≡ false → Below (W .source .base) us → AllSmall W size us at count
   pub one : r ≡ true → Blind (W .number) (W .place) × ((i : ℕ) × (i < count) × (256 ^ size ≤ valueAt W size us (at + i * wide W size)))
 
 -- So many fields, put one behind the other where they fit.
