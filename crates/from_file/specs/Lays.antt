@@ -1,9 +1,11 @@
 -- Contracts of functions over the way's source and target.
-use Prim.Native.Nat.{ℕ}
+use mathlib.Core.Path.{_≡_}
+use Prim.Native.Nat.{ℕ, _^_, _<_}
 use mathlib.Core.List.{List}
 use lib.ListN.{length}
-use Rattle.format.specs.Kind.{Kind}
+use Rattle.format.specs.Kind.{Kind, Shape, size, values}
 use Rattle.format.specs.Layout.{Layout}
+use Rattle.drawing.specs.Fields.{count}
 use Rattle.ways.specs.declared.Pass.{Pass}
 use Rattle.ways.specs.declared.Took.{Took}
 use Rattle.ways.specs.Passes.{Ready}
@@ -25,3 +27,8 @@ Asks k us m m′ at to r = Asked k way us m m′ at to r
 -- Over one field of any kind with this range.
 pub record Ranges (size low high fault : ℕ) (us m m′ : List ℕ) (at to : ℕ) (r : Took) : Type 0 where
   pub asks : (k : Kind) → Ranged k size low high fault → Asks k us m m′ at to r
+
+-- Over one field that is a count: of any shape of four bytes.
+pub record Counts (least : ℕ) (us m m′ : List ℕ) (at to : ℕ) (r : Took) : Type 0 where
+  pub asks : (s : Shape) → size s ≡ 4 → values s ≡ 256 ^ 4 → Asks (record { shape = s; fault = count least .fault }) us m m′ at to r
+  pub small : r .value < 2 ^ 32

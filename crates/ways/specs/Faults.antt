@@ -164,3 +164,19 @@ any-ranged s bytes high fault sized all bytes-hold =
     none : (v : ℕ) → v < 256 ^ bytes → (v < 0) ⊎ (high < v) → ⊥
     none v small (inl h) = omega arith
     none v small (inr h) = omega (arith, bytes-hold)
+
+-- ---- numbers that no field of a file can be
+
+module _ (W : Way) (k : Kind) {v n : ℕ} (small : v < W .source .base ^ wide W (size (k .shape))) where
+  pub file-fault : n ≡ faultOf 5 k v → Judges W k v n
+  file-fault is =
+      judged k v W small (λ h. is) (λ h.
+      let all = values-hold (k .shape) in
+      let five : faultOf 5 k v ≡ 5 = ap (λ b. cond b (k .fault v) 5) (le-ltb v (values (k .shape)) (omega arith)) in
+      omega (arith, is, five))
+
+  pub wide-fault : {other : ℕ} → values (k .shape) ≡ 256 ^ size (k .shape) → 0 < other → n ≡ cond (ltb v (256 ^ size (k .shape))) (k .fault v) other → Judges W k v n
+  wide-fault {other} all positive is =
+      judged k v W small (λ h. is ∙ ap (λ x. cond x (k .fault v) other) (lt-ltb v (256 ^ size (k .shape)) h) ∙ sym (ap (λ x. cond x (k .fault v) 5) (lt-ltb v (values (k .shape)) (rw all h)))) (λ h.
+      let o : n ≡ other = is ∙ ap (λ x. cond x (k .fault v) other) (le-ltb v (256 ^ size (k .shape)) h) in
+      omega (arith, o))

@@ -24,7 +24,7 @@ use Rattle.drawing.specs.Fields as F
 use Rattle.ways.specs.declared.Pass.{Pass}
 use Rattle.ways.specs.Way.{Way, Exact, Blind, codec, route, wide, far, valueAt}
 use Rattle.ways.specs.Passes.{refused, behind, Ready, refusalOf, stepped, behind-going, behind-gone, behind-refusal, refusal-ready, still-going, stepped-ready}
-use Rattle.ways.specs.Steps.{Refused}
+use Rattle.ways.specs.Steps.{CutRun}
 use Rattle.ways.specs.StepLaws.{cut-number}
 use Rattle.ways.specs.Runs.{Any, AllSmall, copied, Runs}
 
@@ -124,9 +124,8 @@ module _ (W : Way) {size : ℕ} (count : ℕ) {us m : List ℕ} {at to : ℕ} (r
           (suc x, read-fault (W .source .base) (λ s. wide W (Kinds.size s)) (W .source .missing) (W .source .meaningless) us place k v inside is x (rw (le-ltb v (values (k .shape)) large) e))
 
   -- There are fewer units than the run takes: it is refused at the first field that is not whole.
-  pub run-missing : Below (W .source .base) us → length us < at + count * wide W size → {r : Pass}
-      → (refused ≤ at → r ≡ record { at = at; to = to }) → (at < refused → r ≡ refusalOf W 2 (at + (length us - at) / wide W size * wide W size)) → Runs W size count us m m at to r
-  run-missing below fewer {r} before now = by (ltb at refused) refl
+  pub run-missing : Below (W .source .base) us → length us < at + count * wide W size → {r : Pass} → CutRun W size us at to r → Runs W size count us m m at to r
+  run-missing below fewer {r} cut = by (ltb at refused) refl
     where
       w : ℕ
       w = wide W size
@@ -154,10 +153,10 @@ module _ (W : Way) {size : ℕ} (count : ℕ) {us m : List ℕ} {at to : ℕ} (r
           blind-came blind (fit-inside inside) going (λ S kind next any s K c same. run-short (route W) us kind next c same w (λ s. ap (wide W) (any s .sized)) count s K at to m inside (omega arith))
 
       by : (b : Bool) → ltb at refused ≡ b → Runs W size count us m m at to r
-      by true e = let going = ltb-true at refused e in rw (now going) (came-runs (cut-at going (W .tells)))
+      by true e = let going = ltb-true at refused e in rw (cut .now going) (came-runs (cut-at going (W .tells)))
       by false e =
           let gone = ltb-false at refused e in
-          rw (before gone)
+          rw (cut .before gone)
           (came-runs
           (record {
             runs = λ kind next any s K. behind-gone W us m m at to (scriptMany (λ t k. ask (kind t) k) next count s K) (K (valuesAt (W .source .base) w us count at)) gone;

@@ -23,10 +23,10 @@ use Rattle.format.specs.PassLaws.{length-put}
 use Rattle.ways.specs.declared.Pass.{Pass}
 use Rattle.ways.specs.declared.Took.{Took}
 use Rattle.ways.specs.Way.{Way, Exact, Blind, codec, route, wide, far, valueAt}
-use Rattle.ways.specs.Passes.{refused, behind, Ready, refusalOf, stepped, behind-going, behind-gone, behind-refusal, refusal-ready, still-going, stepped-ready}
+use Rattle.ways.specs.Passes.{refused, behind, Ready, refusalOf, stepped, behind-going, behind-gone, behind-refusal, refusal-ready, still-going, stepped-ready, step-small}
 use Rattle.ways.specs.Carries.{Valued, Asked}
 use Rattle.ways.specs.LayoutLaws.{gone-valued}
-use Rattle.ways.specs.Steps.{Fits, Refused, Keeps}
+use Rattle.ways.specs.Steps.{Fits, Small, Refused, Keeps}
 use Rattle.ways.specs.Faults.{Judges}
 
 -- A field that is cut has the number that the code gives it.
@@ -142,3 +142,10 @@ pub there-with : {W : Way} (size : ℕ) {bytes words : ℕ} {us : List ℕ} {at 
     → (v ≡ valueAt W size us at) × (v < W .source .base ^ wide W size) → There W us at size v
 there-with size units fits taken value =
     record { inside = rw (← units) (fits .yes taken); value-is = value .0; small = value .1 }
+
+-- What a step over it needs.
+pub there-small : {W : Way} (size : ℕ) {v : ℕ} {us : List ℕ} {at to : ℕ} → Ready (length us) at to → There W us at size v → 0 < size → size ≤ 8 → Small W size 1 at to
+there-small {W} size {us = us} {at = at} ready there least most =
+    let inside : at + 1 * wide W size ≤ length us = omega (arith, there .inside) in
+    let small = step-small W size 1 ready inside least most in
+    record { at-small = small .0; to-small = small .1 }

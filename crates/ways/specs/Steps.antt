@@ -1,7 +1,7 @@
 -- What the primitives of a way and the functions over one field promise.
 use mathlib.Core.Path.{_≡_}
 use mathlib.Core.Bool.{Bool, true, false}
-use Prim.Native.Nat.{ℕ, _+_, _*_, _^_, _<_, _≤_}
+use Prim.Native.Nat.{ℕ, _+_, _-_, _*_, _/_, _^_, _<_, _≤_}
 use mathlib.Core.List.{List}
 use lib.ListN.{length}
 use Rattle.format.specs.Digits.{digits}
@@ -26,6 +26,11 @@ pub record Small (W : Way) (size count at to : ℕ) : Type 0 where
 pub record Refused (W : Way) (n at to : ℕ) (r : Pass) : Type 0 where
   pub before : refused ≤ at → r ≡ record { at = at; to = to }
   pub now : at < refused → r ≡ refusalOf W n at
+
+-- A run that is cut is refused at the first field that is not whole.
+pub record CutRun (W : Way) (size : ℕ) (us : List ℕ) (at to : ℕ) (r : Pass) : Type 0 where
+  pub before : refused ≤ at → r ≡ record { at = at; to = to }
+  pub now : at < refused → r ≡ refusalOf W 2 (at + (length us - at) / wide W size * wide W size)
 
 -- A value with this fault, 0 for none, is kept or refused.
 pub record Keeps (W : Way) (size value fault : ℕ) (m m′ : List ℕ) (at to : ℕ) (r : Took) : Type 0 where
