@@ -39,6 +39,10 @@ any-plain W us bytes k a =
           (record { fits = rw (a .all, a .sized) small; faultless = a .faultless _ }));
     }
 
+-- The fields that are whole end in the source.
+pub fit-inside : (total at w : ℕ) → at ≤ total → at + (total - at) / w * w ≤ total
+fit-inside total at w inside = let d : (total - at) / w * w ≤ total - at = Nat.div-mul-le-self (total - at) w in omega arith
+
 -- Where refusals tell all, every field that is there is a value.
 pub exact-small : (W : Way) → Exact (W .source) → (size : ℕ) (us : List ℕ) (at count : ℕ) → Below (W .source .base) us → at + count * wide W size ≤ length us → AllSmall W size us at count
 exact-small W exact size us at count below inside i less =
@@ -130,13 +134,10 @@ module _ (W : Way) {size : ℕ} (count : ℕ) {us m : List ℕ} {at to : ℕ} (r
       w : ℕ
       w = wide W size
 
-      fit-inside : at ≤ length us → at + (length us - at) / w * w ≤ length us
-      fit-inside inside = let d : (length us - at) / w * w ≤ length us - at = Nat.div-mul-le-self (length us - at) w in omega arith
-
       cut-at : at < refused → Exact (W .source) ⊎ Blind (W .number) (W .place) → Came W size count us m m at to (refusalOf W 2 (at + (length us - at) / w * w) .at) (refusalOf W 2 (at + (length us - at) / w * w) .to)
       cut-at going (inl exact) =
           let inside = ready .inside going in
-          let fit = fit-inside inside in
+          let fit = fit-inside (length us) at w inside in
           record {
             runs = λ kind next any s K.
                 behind-going W us m at to (scriptMany (λ t k. ask (kind t) k) next count s K) going
@@ -150,7 +151,7 @@ module _ (W : Way) {size : ℕ} (count : ℕ) {us m : List ℕ} {at to : ℕ} (r
           }
       cut-at going (inr blind) =
           let inside = ready .inside going in
-          blind-came blind (fit-inside inside) going (λ S kind next any s K c same. run-short (route W) us kind next c same w (λ s. ap (wide W) (any s .sized)) count s K at to m inside (omega arith))
+          blind-came blind (fit-inside (length us) at w inside) going (λ S kind next any s K c same. run-short (route W) us kind next c same w (λ s. ap (wide W) (any s .sized)) count s K at to m inside (omega arith))
 
       by : (b : Bool) → ltb at refused ≡ b → Runs W size count us m m at to r
       by true e = let going = ltb-true at refused e in rw (cut .now going) (came-runs (cut-at going (W .tells)))

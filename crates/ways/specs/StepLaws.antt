@@ -143,9 +143,11 @@ pub there-with : {W : Way} (size : ℕ) {bytes words : ℕ} {us : List ℕ} {at 
 there-with size units fits taken value =
     record { inside = rw (← units) (fits .yes taken); value-is = value .0; small = value .1 }
 
--- What a step over it needs.
-pub there-small : {W : Way} (size : ℕ) {v : ℕ} {us : List ℕ} {at to : ℕ} → Ready (length us) at to → There W us at size v → 0 < size → size ≤ 8 → Small W size 1 at to
-there-small {W} size {us = us} {at = at} ready there least most =
-    let inside : at + 1 * wide W size ≤ length us = omega (arith, there .inside) in
-    let small = step-small W size 1 ready inside least most in
+-- What a step over fields that are there needs.
+pub steps-small : {W : Way} (size count : ℕ) {total at to : ℕ} → Ready total at to → at + count * wide W size ≤ total → 0 < size → size ≤ 8 → Small W size count at to
+steps-small {W} size count ready inside least most =
+    let small = step-small W size count ready inside least most in
     record { at-small = small .0; to-small = small .1 }
+
+pub there-small : {W : Way} (size : ℕ) {v : ℕ} {us : List ℕ} {at to : ℕ} → Ready (length us) at to → There W us at size v → 0 < size → size ≤ 8 → Small W size 1 at to
+there-small size ready there least most = steps-small size 1 ready (omega (arith, there .inside)) least most
