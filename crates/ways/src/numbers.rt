@@ -15,3 +15,5 @@ pub const BAD_COMPONENT: u32 = 9;
 pub const FLOW_FRAME: u32 = 11;
 
 pub const UNJOINED: u32 = 12;
+
+pub const NO_TABLE: u32 = 16;
