@@ -4,6 +4,7 @@
 pub mod field;
 pub mod group;
 pub mod letter;
+pub mod paint;
 pub mod prims;
 pub mod run;
 pub mod string;

@@ -5,20 +5,20 @@ use native.Mathlib.Nat as Nat
 use native.Mathlib.Omega.{arith}
 use mathlib.Core.List.{List, [], _∷_}
 use lib.ListN.{length}
-use Rattle.format.specs.Digits.{digits}
+use Rattle.format.specs.Digits.{digits, Below}
 use Rattle.format.specs.Kind.{Kind, Allowed}
 use Rattle.format.specs.Kind as Kinds
 use Rattle.format.specs.LiteralLaws.{read-value}
-use Rattle.format.specs.Script.{Script}
-use Rattle.format.specs.Format.{one}
+use Rattle.format.specs.Script.{Script, ask}
+use Rattle.format.specs.Format.{Format, one, script}
 use Rattle.format.specs.Layout.{field, repeat}
 use Rattle.format.specs.Pass.{put, onward, pass, _⟫_}
 use Rattle.format.specs.RunLaws.{putMany, length-many}
 use Rattle.ways.specs.declared.Pass.{Pass}
 use Rattle.ways.specs.Way.{Way, route, wide, far, valueAt}
-use Rattle.ways.specs.Passes.{Ready, stepped, behind-going, still-going, stepped-ready}
+use Rattle.ways.specs.Passes.{Ready, behind, stepped, behind-going, still-going, stepped-ready}
 use Rattle.ways.specs.Carries.{Laid, Valued}
-use Rattle.ways.specs.StepLaws.{There, good-asked}
+use Rattle.ways.specs.StepLaws.{There, there-below, good-asked}
 use Rattle.ways.specs.Runs.{copied}
 
 -- So many fields were moved.
@@ -128,3 +128,28 @@ moved-nowhere W size count {us} {m} {at} {to} {r} none is = record { is = is; me
     by [] [] none same = refl
     by [] (x ∷ l′) none same = absurd (omega arith)
     by (x ∷ l) l′ none same = absurd (omega arith)
+
+-- ---- a letter, and what it tells
+
+-- A char that is known to be there, and then the fields of a layout: whatever kind of letter allows it and tells these fields.
+pub record Led (W : Way) {A : Type 0} {P : A → Type 0} (f : Format A P) (us m m′ : List ℕ) (at to : ℕ) (r : Pass) : Type 0 where
+  pub runs : (k : Kind) → Kinds.size (k .shape) ≡ 2 → Allowed k (valueAt W 2 us at) → (next : ℕ → Script (Unit {0})) (K : Script (Unit {0})) → next (valueAt W 2 us at) ≡ script f (λ a. K)
+      → behind W us m at to (ask k next) ≡ behind W us m′ (r .at) (r .to) K
+  pub ready : Ready (length us) (r .at) (r .to)
+  pub same-length : length m′ ≡ length m
+
+pub led : {W : Way} {A : Type 0} {P : A → Type 0} {f : Format A P} {us m m′ m″ : List ℕ} {at to : ℕ} {q r : Pass} → Below (W .source .base) us → Ready (length us) at to → at + wide W 2 ≤ length us
+    → Moved W 2 1 us m m′ at to q → Laid f W us m′ m″ (q .at) (q .to) (r .at) (r .to) → Led W f us m m″ at to r
+led {W} {f = f} {us} {m} {m′} {m″} {at} {to} {q} {r} below ready inside moved rest =
+    record {
+      runs = λ k sized allowed next K tells.
+          moved-valued k sized (omega arith) (omega arith) ready (there-below W us at 2 below inside) allowed moved .runs next
+          ∙ ap (behind W us m′ (q .at) (q .to)) tells
+          ∙ rest .carried .runs K;
+      ready = rest .carried .ready;
+      same-length = rest .carried .same-length ∙ ap length (moved .memory-is) ∙ length-many (W .source .base) (wide W 2) (W .target .base) (far W 2) us 1 at to m;
+    }
+
+-- How far one letter leads.
+pub moved-ready : {W : Way} (size count : ℕ) {total at to : ℕ} {us m m′ : List ℕ} {r : Pass} → Ready total at to → at + count * wide W size ≤ total → 0 < size → size ≤ 8 → Moved W size count us m m′ at to r → Ready total (r .at) (r .to)
+moved-ready {W} size count ready inside least most moved = rw (moved .is) (stepped-ready W size count ready inside least most)

@@ -35,7 +35,9 @@ kept-requires c κs =
     let at-if1 = at-get .before in
     let at-there = at-if1 .before in
     let at-args = at-there .before .before .before in
-    let here = there-with 1 refl (at-there .there .ensures) (at-if1 .if1 .taken) (at-get .get .ensures) in let judges = wide-fault way (F.markerId (at-args .args .high) (at-args .args .more)) (here .small) refl (omega arith) (at-byte-fault .byte-fault .ensures) in (refl, omega arith, there-small 1 (at-args .pre) here (omega arith) (omega arith), λ e. let fine = judges .fine e in omega (arith, fine .fits))
+    let here = there-with 1 refl (at-there .there .ensures) (at-if1 .if1 .taken) (at-get .get .ensures) in
+    let judges = wide-fault way (F.markerId (at-args .args .high) (at-args .args .more)) (here .small) refl (omega arith) (at-byte-fault .byte-fault .ensures) in
+    (refl, omega arith, there-small 1 (at-args .pre) here (omega arith) (omega arith), λ e. let fine = judges .fine e in omega (arith, fine .fits))
 
 -- src/field.rt:280:9
 same-length : tie.Need-same-length
@@ -44,13 +46,16 @@ same-length c = search needs
 -- src/field.rt:280:9
 returns : tie.Need-returns
 returns c =
-    let at-kept = c .before .before in
+    let at-before = c .before in
+    let at-kept = at-before .before in
     let at-byte-fault = at-kept .before .before in
     let at-get = at-byte-fault .before in
     let at-if1 = at-get .before in
     let at-there = at-if1 .before in
     let at-args = at-there .before .before .before in
-    let here = there-with 1 refl (at-there .there .ensures) (at-if1 .if1 .taken) (at-get .get .ensures) in let judges = wide-fault way (F.markerId (at-args .args .high) (at-args .args .more)) (here .small) refl (omega arith) (at-byte-fault .byte-fault .ensures) in field-asked (at-args .pre) (F.markerId (at-args .args .high) (at-args .args .more)) refl here (omega arith) (omega arith) judges (at-kept .kept .ensures .0)
+    let here = there-with 1 refl (at-there .there .ensures) (at-if1 .if1 .taken) (at-get .get .ensures) in
+    let judges = wide-fault way (F.markerId (at-args .args .high) (at-args .args .more)) (here .small) refl (omega arith) (at-byte-fault .byte-fault .ensures) in
+    field-asked (at-args .pre) (F.markerId (at-args .args .high) (at-args .args .more)) refl here (omega arith) (omega arith) judges (at-kept .kept .ensures .0)
 
 -- src/field.rt:282:5
 cut-requires : tie.Need-cut-requires

@@ -35,11 +35,14 @@ between-requires c κs = search needs
 -- src/field.rt:107:9
 kept-requires : tie.Need-kept-requires
 kept-requires c κs =
-    let at-get = c .before .before in
+    let at-before = c .before in
+    let at-get = at-before .before in
     let at-if1 = at-get .before in
     let at-there = at-if1 .before in
     let at-args = at-there .before .before .before in
-    let sizes = field-size (at-args .args .size) (at-args .pre .1 .0) in let here = there-with (at-args .args .size) refl (at-there .there .ensures) (at-if1 .if1 .taken) (at-get .get .ensures) in (at-args .pre .1 .0, sizes .1, there-small (at-args .args .size) (at-args .pre .0) here (sizes .0) (sizes .1), λ e. let i = c .between .ensures .inside e in omega (arith, i .1, at-args .pre .1 .2))
+    let sizes = field-size (at-args .args .size) (at-args .pre .1 .0) in
+    let here = there-with (at-args .args .size) refl (at-there .there .ensures) (at-if1 .if1 .taken) (at-get .get .ensures) in
+    (at-args .pre .1 .0, sizes .1, there-small (at-args .args .size) (at-args .pre .0) here (sizes .0) (sizes .1), λ e. let i = c .between .ensures .inside e in omega (arith, i .1, at-args .pre .1 .2))
 
 -- src/field.rt:107:9
 same-length : tie.Need-same-length
@@ -48,13 +51,16 @@ same-length c = search needs
 -- src/field.rt:107:9
 returns : tie.Need-returns
 returns c =
-    let at-kept = c .before .before in
+    let at-before = c .before in
+    let at-kept = at-before .before in
     let at-between = at-kept .before in
     let at-get = at-between .before .before in
     let at-if1 = at-get .before in
     let at-there = at-if1 .before in
     let at-args = at-there .before .before .before in
-    let sizes = field-size (at-args .args .size) (at-args .pre .1 .0) in let here = there-with (at-args .args .size) refl (at-there .there .ensures) (at-if1 .if1 .taken) (at-get .get .ensures) in record { asks = λ k ranged. field-asked (at-args .pre .0) k (ranged .sized) here (sizes .0) (sizes .1) (range-fault way k ranged (at-args .pre .1 .2) (here .small) (at-between .between .ensures)) (at-kept .kept .ensures .0) }
+    let sizes = field-size (at-args .args .size) (at-args .pre .1 .0) in
+    let here = there-with (at-args .args .size) refl (at-there .there .ensures) (at-if1 .if1 .taken) (at-get .get .ensures) in
+    record { asks = λ k ranged. field-asked (at-args .pre .0) k (ranged .sized) here (sizes .0) (sizes .1) (range-fault way k ranged (at-args .pre .1 .2) (here .small) (at-between .between .ensures)) (at-kept .kept .ensures .0) }
 
 -- src/field.rt:109:5
 cut-requires : tie.Need-cut-requires

@@ -25,13 +25,18 @@ put-requires : tie.Need-put-requires
 put-requires c κs =
     let at-get = c .before in
     let at-args = at-get .before .before .before in
-    let sizes = field-size (at-args .args .size) (at-args .pre .1 .0) in let small = steps-small {W = way} (at-args .args .size) 1 (at-args .pre .0) (omega (arith, at-args .pre .1 .1)) (sizes .0) (sizes .1) in (omega (arith, small .to-small), at-args .pre .1 .0, rw (at-get .get .ensures .0) (at-args .pre .1 .2))
+    let sizes = field-size (at-args .args .size) (at-args .pre .1 .0) in
+    let small = steps-small {W = way} (at-args .args .size) 1 (at-args .pre .0) (omega (arith, at-args .pre .1 .1)) (sizes .0) (sizes .1) in
+    (omega (arith, small .to-small), at-args .pre .1 .0, rw (at-get .get .ensures .0) (at-args .pre .1 .2))
 
 -- src/group.rt:25:5
 step-requires : tie.Need-step-requires
 step-requires c κs =
-    let at-args = c .before .before .before .before .before .before .before in
-    let sizes = field-size (at-args .args .size) (at-args .pre .1 .0) in let small = steps-small {W = way} (at-args .args .size) 1 (at-args .pre .0) (omega (arith, at-args .pre .1 .1)) (sizes .0) (sizes .1) in (sizes .1, small)
+    let at-before = c .before .before .before .before .before .before in
+    let at-args = at-before .before in
+    let sizes = field-size (at-args .args .size) (at-args .pre .1 .0) in
+    let small = steps-small {W = way} (at-args .args .size) 1 (at-args .pre .0) (omega (arith, at-args .pre .1 .1)) (sizes .0) (sizes .1) in
+    (sizes .1, small)
 
 -- src/group.rt:18:1
 same-length : tie.Need-same-length
@@ -40,7 +45,8 @@ same-length c = search needs
 -- src/group.rt:18:1
 returns : tie.Need-returns
 returns c =
-    let at-put = c .before .before .before in
+    let at-before = c .before .before in
+    let at-put = at-before .before in
     let at-get = at-put .before .before in
     let at-args = at-get .before .before .before in
     moved-one way (at-args .args .size) (at-args .args .src .now) (c .step .ensures) (at-put .put .ensures ∙ ap (λ v. put (at-args .args .to) (digits (way .target .base) (far way (at-args .args .size)) v) (at-args .args .dst .now)) (at-get .get .ensures .0))

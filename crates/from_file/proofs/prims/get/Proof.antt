@@ -16,7 +16,8 @@ returns : tie.Need-returns
 returns c =
     let at-shared-slice-known = c .before in
     let at-args = at-shared-slice-known .before in
-    let src = at-args .args .src .now in (c .value-at .ensures, rw (c .value-at .ensures) (field-below 256 src (at-args .args .at) (at-args .args .size) (at-args .pre .1) (known-below unit src (at-shared-slice-known .shared-slice-known .given))))
+    let src = at-args .args .src .now in
+    (c .value-at .ensures, rw (c .value-at .ensures) (field-below 256 src (at-args .args .at) (at-args .args .size) (at-args .pre .1) (known-below unit src (at-shared-slice-known .shared-slice-known .given))))
 
 pub get-spec : {M : Type 1} → statement M
 get-spec = tie.close (tie.spec value-at-requires returns)

@@ -19,7 +19,9 @@ same-length c = search needs
 
 -- src/string.rt:19:9
 returns : tie.Need-returns
-returns c = let counted = c .before .before .before .before .count .ensures .asks K.stringLength refl refl in laid (told counted (record { carried = rw (c .if1 .taken) (came-nowhere (counted .ready)) }))
+returns c =
+    let counted = c .before .before .before .before .count .ensures .asks K.stringLength refl refl in
+    laid (told counted (record { carried = rw (c .if1 .taken) (came-nowhere (counted .ready)) }))
 
 -- src/string.rt:21:5
 chars-requires : tie.Need-chars-requires
@@ -34,7 +36,8 @@ same-length-2 c = search needs
 -- src/string.rt:10:1
 returns-2 : tie.Need-returns-2
 returns-2 c =
-    let at-chars = c .before .before in
+    let at-before = c .before in
+    let at-chars = at-before .before in
     let at-count = at-chars .before .before .before .before .before .before in
     laid (told (at-count .count .ensures .asks K.stringLength refl refl) (at-chars .chars .ensures))
 

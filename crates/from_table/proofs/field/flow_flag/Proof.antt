@@ -31,11 +31,14 @@ flow-fault-requires c κs = search needs
 -- src/field.rt:250:9
 kept-requires : tie.Need-kept-requires
 kept-requires c κs =
-    let at-get = c .before .before in
+    let at-before = c .before in
+    let at-get = at-before .before in
     let at-if1 = at-get .before in
     let at-there = at-if1 .before in
     let at-pre = at-there .before .before .before in
-    let here = there-with 1 refl (at-there .there .ensures) (at-if1 .if1 .taken) (at-get .get .ensures) in let judges = file-fault way F.flowFlag (here .small) (c .flow-fault .ensures) in (refl, omega arith, there-small 1 (at-pre .pre) here (omega arith) (omega arith), λ e. let fine = judges .fine e in omega (arith, fine .fits))
+    let here = there-with 1 refl (at-there .there .ensures) (at-if1 .if1 .taken) (at-get .get .ensures) in
+    let judges = file-fault way F.flowFlag (here .small) (c .flow-fault .ensures) in
+    (refl, omega arith, there-small 1 (at-pre .pre) here (omega arith) (omega arith), λ e. let fine = judges .fine e in omega (arith, fine .fits))
 
 -- src/field.rt:250:9
 same-length : tie.Need-same-length
@@ -44,13 +47,16 @@ same-length c = search needs
 -- src/field.rt:250:9
 returns : tie.Need-returns
 returns c =
-    let at-kept = c .before .before in
+    let at-before = c .before in
+    let at-kept = at-before .before in
     let at-flow-fault = at-kept .before in
     let at-get = at-flow-fault .before .before in
     let at-if1 = at-get .before in
     let at-there = at-if1 .before in
     let at-pre = at-there .before .before .before in
-    let here = there-with 1 refl (at-there .there .ensures) (at-if1 .if1 .taken) (at-get .get .ensures) in let judges = file-fault way F.flowFlag (here .small) (at-flow-fault .flow-fault .ensures) in field-asked (at-pre .pre) F.flowFlag refl here (omega arith) (omega arith) judges (at-kept .kept .ensures .0)
+    let here = there-with 1 refl (at-there .there .ensures) (at-if1 .if1 .taken) (at-get .get .ensures) in
+    let judges = file-fault way F.flowFlag (here .small) (at-flow-fault .flow-fault .ensures) in
+    field-asked (at-pre .pre) F.flowFlag refl here (omega arith) (omega arith) judges (at-kept .kept .ensures .0)
 
 -- src/field.rt:252:5
 cut-requires : tie.Need-cut-requires

@@ -40,11 +40,13 @@ unless-requires c κs = search needs
 -- src/field.rt:226:9
 kept-requires : tie.Need-kept-requires
 kept-requires c κs =
-    let at-get = c .before .before .before in
+    let at-before = c .before .before in
+    let at-get = at-before .before in
     let at-if1 = at-get .before in
     let at-there = at-if1 .before in
     let at-pre = at-there .before .before .before in
-    let here = there-with 4 refl (at-there .there .ensures) (at-if1 .if1 .taken) (at-get .get .ensures) in (refl, omega arith, there-small 4 (at-pre .pre) here (omega arith) (omega arith), λ e. omega (arith, here .small))
+    let here = there-with 4 refl (at-there .there .ensures) (at-if1 .if1 .taken) (at-get .get .ensures) in
+    (refl, omega arith, there-small 4 (at-pre .pre) here (omega arith) (omega arith), λ e. omega (arith, here .small))
 
 -- src/field.rt:226:9
 same-length : tie.Need-same-length
@@ -53,14 +55,16 @@ same-length c = search needs
 -- src/field.rt:226:9
 returns : tie.Need-returns
 returns c =
-    let at-kept = c .before .before in
+    let at-before = c .before in
+    let at-kept = at-before .before in
     let at-unless = at-kept .before .before in
     let at-word-reaches = at-unless .before in
     let at-get = at-word-reaches .before in
     let at-if1 = at-get .before in
     let at-there = at-if1 .before in
     let at-pre = at-there .before .before .before in
-    let here = there-with 4 refl (at-there .there .ensures) (at-if1 .if1 .taken) (at-get .get .ensures) in field-asked (at-pre .pre) F.fontSize refl here (omega arith) (omega arith) (own-fault F.fontSize (at-get .get .result) way (omega (arith, here .small)) (here .small) (at-unless .unless .ensures ∙ ap (λ b. F.unless b 6) (at-word-reaches .word-reaches .ensures))) (at-kept .kept .ensures .0)
+    let here = there-with 4 refl (at-there .there .ensures) (at-if1 .if1 .taken) (at-get .get .ensures) in
+    field-asked (at-pre .pre) F.fontSize refl here (omega arith) (omega arith) (own-fault F.fontSize (at-get .get .result) way (omega (arith, here .small)) (here .small) (at-unless .unless .ensures ∙ ap (λ b. F.unless b 6) (at-word-reaches .word-reaches .ensures))) (at-kept .kept .ensures .0)
 
 -- src/field.rt:228:5
 cut-requires : tie.Need-cut-requires

@@ -19,7 +19,8 @@ same-length c = search needs
 -- src/field.rt:134:1
 returns : tie.Need-returns
 returns c =
-    let at-ranged = c .before .before in
+    let at-before = c .before in
+    let at-ranged = at-before .before in
     let at-args = at-ranged .before .before .before .before in
     at-ranged .ranged .ensures .asks (F.integerIn 0 (at-args .args .high)) (integer-ranged (at-args .args .high) (at-args .pre .1))
 

@@ -31,11 +31,13 @@ unless-requires c κs = search needs
 -- src/field.rt:185:9
 kept-requires : tie.Need-kept-requires
 kept-requires c κs =
-    let at-get = c .before .before in
+    let at-before = c .before in
+    let at-get = at-before .before in
     let at-if1 = at-get .before in
     let at-there = at-if1 .before in
     let at-pre = at-there .before .before .before in
-    let here = there-with 8 refl (at-there .there .ensures) (at-if1 .if1 .taken) (at-get .get .ensures) in (refl, omega arith, there-small 8 (at-pre .pre) here (omega arith) (omega arith), λ e. omega (arith, here .small))
+    let here = there-with 8 refl (at-there .there .ensures) (at-if1 .if1 .taken) (at-get .get .ensures) in
+    (refl, omega arith, there-small 8 (at-pre .pre) here (omega arith) (omega arith), λ e. omega (arith, here .small))
 
 -- src/field.rt:185:9
 same-length : tie.Need-same-length
@@ -44,13 +46,15 @@ same-length c = search needs
 -- src/field.rt:185:9
 returns : tie.Need-returns
 returns c =
-    let at-kept = c .before .before in
+    let at-before = c .before in
+    let at-kept = at-before .before in
     let at-unless = at-kept .before in
     let at-get = at-unless .before .before in
     let at-if1 = at-get .before in
     let at-there = at-if1 .before in
     let at-pre = at-there .before .before .before in
-    let here = there-with 8 refl (at-there .there .ensures) (at-if1 .if1 .taken) (at-get .get .ensures) in field-asked (at-pre .pre) (F.joined (at-pre .args .bits)) refl here (omega arith) (omega arith) (own-fault (F.joined (at-pre .args .bits)) (at-get .get .result) way (omega (arith, here .small)) (here .small) (at-unless .unless .ensures)) (at-kept .kept .ensures .0)
+    let here = there-with 8 refl (at-there .there .ensures) (at-if1 .if1 .taken) (at-get .get .ensures) in
+    field-asked (at-pre .pre) (F.joined (at-pre .args .bits)) refl here (omega arith) (omega arith) (own-fault (F.joined (at-pre .args .bits)) (at-get .get .result) way (omega (arith, here .small)) (here .small) (at-unless .unless .ensures)) (at-kept .kept .ensures .0)
 
 -- src/field.rt:187:5
 cut-requires : tie.Need-cut-requires

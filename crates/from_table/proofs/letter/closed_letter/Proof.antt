@@ -44,7 +44,9 @@ kept-requires c κs =
     let at-if1 = at-get .before in
     let at-there = at-if1 .before in
     let at-pre = at-there .before .before .before in
-    let here = there-with 2 refl (at-there .there .ensures) (at-if1 .if1 .taken) (at-get .get .ensures) in let judges = wide-fault way closedLetter (here .small) refl (omega arith) (at-char-fault .char-fault .ensures ∙ ap (λ f. cond (ltb (at-get .get .result) 65536) f 7) (at-closed-fault .closed-fault .ensures)) in (refl, omega arith, there-small 2 (at-pre .pre) here (omega arith) (omega arith), λ e. let fine = judges .fine e in omega (arith, fine .fits))
+    let here = there-with 2 refl (at-there .there .ensures) (at-if1 .if1 .taken) (at-get .get .ensures) in
+    let judges = wide-fault way closedLetter (here .small) refl (omega arith) (at-char-fault .char-fault .ensures ∙ ap (λ f. cond (ltb (at-get .get .result) 65536) f 7) (at-closed-fault .closed-fault .ensures)) in
+    (refl, omega arith, there-small 2 (at-pre .pre) here (omega arith) (omega arith), λ e. let fine = judges .fine e in omega (arith, fine .fits))
 
 -- src/letter.rt:35:9
 same-length : tie.Need-same-length
@@ -53,14 +55,17 @@ same-length c = search needs
 -- src/letter.rt:35:9
 returns : tie.Need-returns
 returns c =
-    let at-kept = c .before .before in
+    let at-before = c .before in
+    let at-kept = at-before .before in
     let at-char-fault = at-kept .before .before in
     let at-closed-fault = at-char-fault .before in
     let at-get = at-closed-fault .before in
     let at-if1 = at-get .before in
     let at-there = at-if1 .before in
     let at-pre = at-there .before .before .before in
-    let here = there-with 2 refl (at-there .there .ensures) (at-if1 .if1 .taken) (at-get .get .ensures) in let judges = wide-fault way closedLetter (here .small) refl (omega arith) (at-char-fault .char-fault .ensures ∙ ap (λ f. cond (ltb (at-get .get .result) 65536) f 7) (at-closed-fault .closed-fault .ensures)) in field-asked (at-pre .pre) closedLetter refl here (omega arith) (omega arith) judges (at-kept .kept .ensures .0)
+    let here = there-with 2 refl (at-there .there .ensures) (at-if1 .if1 .taken) (at-get .get .ensures) in
+    let judges = wide-fault way closedLetter (here .small) refl (omega arith) (at-char-fault .char-fault .ensures ∙ ap (λ f. cond (ltb (at-get .get .result) 65536) f 7) (at-closed-fault .closed-fault .ensures)) in
+    field-asked (at-pre .pre) closedLetter refl here (omega arith) (omega arith) judges (at-kept .kept .ensures .0)
 
 -- src/letter.rt:37:5
 cut-requires : tie.Need-cut-requires

@@ -11,7 +11,8 @@ use Rattle.passes.proofs.runs.all_chars.Reads as all-chars-reads
 all-chars-requires : tie.Need-all-chars-requires
 all-chars-requires c κs =
     let at-args = c .before .before in
-    let there = chars-there (at-args .args .size) (at-args .args .src .now) (at-args .args .at) (at-args .args .count) (c .if1 .taken) (at-args .pre .1) in (omega (arith, there), at-args .pre .2)
+    let there = chars-there (at-args .args .size) (at-args .args .src .now) (at-args .args .at) (at-args .args .count) (c .if1 .taken) (at-args .pre .1) in
+    (omega (arith, there), at-args .pre .2)
 
 -- src/prims.rt:94:13
 returns : tie.Need-returns

@@ -24,34 +24,43 @@ wide-requires c κs = run-size (c .before .before .args .size) (c .before .befor
 
 -- src/run.rt:33:24
 sub-refusal : tie.Need-sub-refusal
-sub-refusal c = let inside = c .before .before .before .pre .0 .inside (omega (arith, c .before .if1 .left)) in omega (arith, inside)
+sub-refusal c =
+    let inside = c .before .before .before .pre .0 .inside (omega (arith, c .before .if1 .left)) in
+    omega (arith, inside)
 
 -- src/run.rt:33:23
 div-refusal : tie.Need-div-refusal
 div-refusal c =
     let at-args = c .before .before .before in
-    let some = way .source .least (at-args .args .size) (run-size (at-args .args .size) (at-args .pre .1) .0) in omega (arith, some, c .wide .ensures)
+    let some = way .source .least (at-args .args .size) (run-size (at-args .args .size) (at-args .pre .1) .0) in
+    omega (arith, some, c .wide .ensures)
 
 -- src/run.rt:33:23
 mul-refusal : tie.Need-mul-refusal
 mul-refusal c =
     let at-if1 = c .before in
     let at-pre = at-if1 .before .before in
-    let inside = at-pre .pre .0 .inside (omega (arith, at-if1 .if1 .left)) in let fit = fit-inside (length (at-pre .args .src .now)) (at-pre .args .at) (c .wide .result) inside in omega (arith, fit, at-pre .pre .0 .short)
+    let inside = at-pre .pre .0 .inside (omega (arith, at-if1 .if1 .left)) in
+    let fit = fit-inside (length (at-pre .args .src .now)) (at-pre .args .at) (c .wide .result) inside in
+    omega (arith, fit, at-pre .pre .0 .short)
 
 -- src/run.rt:33:18
 add-refusal : tie.Need-add-refusal
 add-refusal c =
     let at-if1 = c .before in
     let at-pre = at-if1 .before .before in
-    let inside = at-pre .pre .0 .inside (omega (arith, at-if1 .if1 .left)) in let fit = fit-inside (length (at-pre .args .src .now)) (at-pre .args .at) (c .wide .result) inside in omega (arith, fit, at-pre .pre .0 .short)
+    let inside = at-pre .pre .0 .inside (omega (arith, at-if1 .if1 .left)) in
+    let fit = fit-inside (length (at-pre .args .src .now)) (at-pre .args .at) (c .wide .result) inside in
+    omega (arith, fit, at-pre .pre .0 .short)
 
 -- src/run.rt:33:5
 refusal-requires : tie.Need-refusal-requires
 refusal-requires c κs =
     let at-if1 = c .before in
     let at-pre = at-if1 .before .before in
-    let inside = at-pre .pre .0 .inside (omega (arith, at-if1 .if1 .left)) in let fit = fit-inside (length (at-pre .args .src .now)) (at-pre .args .at) (c .wide .result) inside in omega (arith, fit, at-pre .pre .0 .short)
+    let inside = at-pre .pre .0 .inside (omega (arith, at-if1 .if1 .left)) in
+    let fit = fit-inside (length (at-pre .args .src .now)) (at-pre .args .at) (c .wide .result) inside in
+    omega (arith, fit, at-pre .pre .0 .short)
 
 -- src/run.rt:24:1
 returns-2 : tie.Need-returns-2

@@ -23,23 +23,34 @@ use Rattle.from_table.proofs.run.cut_run.Reads as cut-run-reads
 mul-there : tie.Need-mul-there
 mul-there c =
     let at-args = c .before .before in
-    let sizes = run-size (at-args .args .size) (at-args .pre .1 .0) in let few : at-args .args .count * at-args .args .size ≤ at-args .args .count * 8 = Nat.mul-le-mul-left (at-args .args .count) (sizes .1) in omega (arith, few, at-args .pre .1 .1)
+    let sizes = run-size (at-args .args .size) (at-args .pre .1 .0) in
+    let few : at-args .args .count * at-args .args .size ≤ at-args .args .count * 8 = Nat.mul-le-mul-left (at-args .args .count) (sizes .1) in
+    omega (arith, few, at-args .pre .1 .1)
 
 -- src/run.rt:42:41
 add-there : tie.Need-add-there
-add-there c = let sizes = run-size (c .before .before .args .size) (c .before .before .pre .1 .0) in omega (arith, sizes .1)
+add-there c =
+    let sizes = run-size (c .before .before .args .size) (c .before .before .pre .1 .0) in
+    omega (arith, sizes .1)
 
 -- src/run.rt:42:35
 mul-there-2 : tie.Need-mul-there-2
 mul-there-2 c =
     let at-args = c .before .before in
-    let sizes = run-size (at-args .args .size) (at-args .pre .1 .0) in let words : (at-args .args .size + 3) / 4 ≤ 8 = omega (arith, sizes .1) in let few-words : at-args .args .count * ((at-args .args .size + 3) / 4) ≤ at-args .args .count * 8 = Nat.mul-le-mul-left (at-args .args .count) words in omega (arith, few-words, at-args .pre .1 .1)
+    let sizes = run-size (at-args .args .size) (at-args .pre .1 .0) in
+    let words : (at-args .args .size + 3) / 4 ≤ 8 = omega (arith, sizes .1) in
+    let few-words : at-args .args .count * ((at-args .args .size + 3) / 4) ≤ at-args .args .count * 8 = Nat.mul-le-mul-left (at-args .args .count) words in
+    omega (arith, few-words, at-args .pre .1 .1)
 
 -- src/run.rt:42:8
 there-requires : tie.Need-there-requires
 there-requires c κs =
     let at-args = c .before .before in
-    let sizes = run-size (at-args .args .size) (at-args .pre .1 .0) in let few : at-args .args .count * at-args .args .size ≤ at-args .args .count * 8 = Nat.mul-le-mul-left (at-args .args .count) (sizes .1) in let words : (at-args .args .size + 3) / 4 ≤ 8 = omega (arith, sizes .1) in let few-words : at-args .args .count * ((at-args .args .size + 3) / 4) ≤ at-args .args .count * 8 = Nat.mul-le-mul-left (at-args .args .count) words in omega (arith, few, few-words, at-args .pre .1 .1, at-args .pre .0 .near, at-args .pre .0 .short)
+    let sizes = run-size (at-args .args .size) (at-args .pre .1 .0) in
+    let few : at-args .args .count * at-args .args .size ≤ at-args .args .count * 8 = Nat.mul-le-mul-left (at-args .args .count) (sizes .1) in
+    let words : (at-args .args .size + 3) / 4 ≤ 8 = omega (arith, sizes .1) in
+    let few-words : at-args .args .count * ((at-args .args .size + 3) / 4) ≤ at-args .args .count * 8 = Nat.mul-le-mul-left (at-args .args .count) words in
+    omega (arith, few, few-words, at-args .pre .1 .1, at-args .pre .0 .near, at-args .pre .0 .short)
 
 -- src/run.rt:43:12
 has-wide-requires : tie.Need-has-wide-requires
@@ -60,7 +71,9 @@ returns c =
     let at-if1 = at-has-wide .before in
     let at-there = at-if1 .before in
     let at-args = at-there .before .before .before in
-    let sizes = run-size (at-args .args .size) (at-args .pre .1 .0) in let inside = at-there .there .ensures .yes (at-if1 .if1 .taken) in rw (c .refusal .ensures) (run-wide way (at-args .args .count) (at-args .pre .0) (sizes .0) inside (at-has-wide .has-wide .ensures .one (at-if2 .if2 .taken)))
+    let sizes = run-size (at-args .args .size) (at-args .pre .1 .0) in
+    let inside = at-there .there .ensures .yes (at-if1 .if1 .taken) in
+    rw (c .refusal .ensures) (run-wide way (at-args .args .count) (at-args .pre .0) (sizes .0) inside (at-has-wide .has-wide .ensures .one (at-if2 .if2 .taken)))
 
 -- src/run.rt:46:9
 copy-requires : tie.Need-copy-requires
@@ -71,15 +84,18 @@ copy-requires c κs =
     let at-there = at-if1 .before in
     let at-shared-slice-known = at-there .before .before in
     let at-args = at-shared-slice-known .before in
-    let below = known-below unit (at-args .args .src .now) (at-shared-slice-known .shared-slice-known .given) in (at-args .pre .1 .0, at-there .there .ensures .yes (at-if1 .if1 .taken), at-has-wide .has-wide .ensures .none (at-if2 .if2 .left) below)
+    let below = known-below unit (at-args .args .src .now) (at-shared-slice-known .shared-slice-known .given) in
+    (at-args .pre .1 .0, at-there .there .ensures .yes (at-if1 .if1 .taken), at-has-wide .has-wide .ensures .none (at-if2 .if2 .left) below)
 
 -- src/run.rt:47:9
 step-requires : tie.Need-step-requires
 step-requires c κs =
-    let at-if1 = c .before .before .before .before .before .before in
+    let at-before = c .before .before .before .before .before in
+    let at-if1 = at-before .before in
     let at-there = at-if1 .before in
     let at-args = at-there .before .before .before in
-    let sizes = run-size (at-args .args .size) (at-args .pre .1 .0) in (sizes .1, steps-small (at-args .args .size) (at-args .args .count) (at-args .pre .0) (at-there .there .ensures .yes (at-if1 .if1 .taken)) (sizes .0) (sizes .1))
+    let sizes = run-size (at-args .args .size) (at-args .pre .1 .0) in
+    (sizes .1, steps-small (at-args .args .size) (at-args .args .count) (at-args .pre .0) (at-there .there .ensures .yes (at-if1 .if1 .taken)) (sizes .0) (sizes .1))
 
 -- src/run.rt:47:9
 same-length : tie.Need-same-length
@@ -88,14 +104,18 @@ same-length c = search needs
 -- src/run.rt:47:9
 returns-2 : tie.Need-returns-2
 returns-2 c =
-    let at-copy = c .before .before .before in
+    let at-before = c .before .before in
+    let at-copy = at-before .before in
     let at-if2 = at-copy .before .before in
     let at-has-wide = at-if2 .before in
     let at-if1 = at-has-wide .before in
     let at-there = at-if1 .before in
     let at-shared-slice-known = at-there .before .before in
     let at-args = at-shared-slice-known .before in
-    let below = known-below unit (at-args .args .src .now) (at-shared-slice-known .shared-slice-known .given) in let sizes = run-size (at-args .args .size) (at-args .pre .1 .0) in let inside = at-there .there .ensures .yes (at-if1 .if1 .taken) in rw (c .step .ensures) (run-there way (at-args .args .count) (at-args .pre .0) (sizes .0) (sizes .1) inside (at-has-wide .has-wide .ensures .none (at-if2 .if2 .left) below) (at-copy .copy .ensures))
+    let below = known-below unit (at-args .args .src .now) (at-shared-slice-known .shared-slice-known .given) in
+    let sizes = run-size (at-args .args .size) (at-args .pre .1 .0) in
+    let inside = at-there .there .ensures .yes (at-if1 .if1 .taken) in
+    rw (c .step .ensures) (run-there way (at-args .args .count) (at-args .pre .0) (sizes .0) (sizes .1) inside (at-has-wide .has-wide .ensures .none (at-if2 .if2 .left) below) (at-copy .copy .ensures))
 
 -- src/run.rt:49:5
 cut-run-requires : tie.Need-cut-run-requires
@@ -108,7 +128,9 @@ returns-3 c =
     let at-there = at-if1 .before in
     let at-shared-slice-known = at-there .before .before in
     let at-args = at-shared-slice-known .before in
-    let below = known-below unit (at-args .args .src .now) (at-shared-slice-known .shared-slice-known .given) in let sizes = run-size (at-args .args .size) (at-args .pre .1 .0) in run-missing way (at-args .args .count) (at-args .pre .0) (sizes .0) below (at-there .there .ensures .no (at-if1 .if1 .left)) (c .cut-run .ensures)
+    let below = known-below unit (at-args .args .src .now) (at-shared-slice-known .shared-slice-known .given) in
+    let sizes = run-size (at-args .args .size) (at-args .pre .1 .0) in
+    run-missing way (at-args .args .count) (at-args .pre .0) (sizes .0) below (at-there .there .ensures .no (at-if1 .if1 .left)) (c .cut-run .ensures)
 
 pub run-spec : {M : Type 1} → statement M
 run-spec =
