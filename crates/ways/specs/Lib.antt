@@ -9,3 +9,4 @@ pub mod StepLaws
 pub mod Runs
 pub mod RunLaws
 pub mod Moves
+pub mod PaintLaws
