@@ -57,7 +57,8 @@ is-component-requires c κs =
 -- src/paint.rt:33:17
 add-i : tie.Need-add-i Inv-loop μ-loop
 add-i c =
-    let at-before = c .before .before .before in
+    let at-before = c .before .before in
+    let at-before = at-before .before in
     let at-loop-test = at-before .before in
     let at-pre = at-loop-test .before .before .before in
     omega (arith, at-loop-test .loop-test .taken, at-pre .pre .0, at-pre .pre .1)
@@ -65,7 +66,8 @@ add-i c =
 -- src/paint.rt:31:5
 loop-less : tie.Need-loop-less Inv-loop μ-loop
 loop-less c =
-    let at-before = c .before .before .before in
+    let at-before = c .before .before in
+    let at-before = at-before .before in
     let at-loop-test = at-before .before in
     let at-pre = at-loop-test .before .before .before in
     omega (arith, at-loop-test .loop-test .taken, at-pre .pre .0, at-pre .pre .1)

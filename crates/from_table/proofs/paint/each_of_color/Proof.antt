@@ -21,7 +21,8 @@ keep-requires c κs = search needs
 -- src/paint.rt:62:5
 each-component-requires : tie.Need-each-component-requires
 each-component-requires c κs =
-    let at-before = c .before .before in
+    let at-before = c .before in
+    let at-before = at-before .before in
     let at-keep = at-before .before in
     let at-args = at-keep .before .before .before .before in
     let some : at-args .args .at + 1 * wide way 2 ≤ length (at-args .args .src .now) = omega (arith, at-args .pre .1 .0) in
