@@ -32,7 +32,7 @@ fn fitting(space: usize, to: usize, far: usize, count: usize) -> usize
     fit
 }
 
-fn store_run(file: &[u8], at: usize, bodies: &mut [u32], to: usize, size: usize, count: usize)
+pub fn store_run(file: &[u8], at: usize, bodies: &mut [u32], to: usize, size: usize, count: usize)
     requires { ⌜ (isRun size ≡ true) × (at + count * size ≤ length (now file)) ⌝ }
     ensures { λ r. ⌜ now (bodies .exit) ≡ putMany 256 size (2 ^ 32) ((size + 3) / 4) (now (file .entry)) count at to (now (bodies .entry)) ⌝ }
 {
@@ -47,7 +47,7 @@ fn store_run(file: &[u8], at: usize, bodies: &mut [u32], to: usize, size: usize,
     store_fields(file, at, bodies, to, size, n);
 }
 
-fn write_run(words: &[u32], at: usize, out: &mut [u8], to: usize, size: usize, count: usize)
+pub fn write_run(words: &[u32], at: usize, out: &mut [u8], to: usize, size: usize, count: usize)
     requires { ⌜ (isRun size ≡ true) × (at + count * ((size + 3) / 4) ≤ length (now words)) ⌝ }
     requires { ⌜ SmallWords size (now words) at count ⌝ }
     ensures { λ r. ⌜ now (out .exit) ≡ putMany (2 ^ 32) ((size + 3) / 4) 256 size (now (words .entry)) count at to (now (out .entry)) ⌝ }
@@ -86,7 +86,7 @@ fn put_run(
 }
 
 // All of these words are chars. What is above a char in each is added up, with no test for each, so that several words can be taken at a time.
-fn all_chars(words: &[u32], from: usize, count: usize) -> bool
+pub fn all_chars(words: &[u32], from: usize, count: usize) -> bool
     requires { ⌜ (from + count ≤ length (now words)) × (length (now words) ≤ lengthLimit) ⌝ }
     ensures { λ r. ⌜ AllChars (now (words .entry)) from count r ⌝ }
 {

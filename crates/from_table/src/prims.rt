@@ -1,0 +1,107 @@
+// The primitives of the way from a table's words to a file's bytes.
+use fields::words::word_value_at;
+use passes::runs::all_chars;
+use passes::runs::write_run;
+use passes::target::write_value;
+use ways::Pass;
+use ways::REFUSED;
+use ways::numbers::NO_TABLE;
+ghost use mathlib.Core.Path.{_≡_};
+ghost use mathlib.Core.Bool.{true};
+ghost use Prim.Native.Nat.{_+_, _*_, _^_, _<_, _≤_};
+ghost use lib.ListN.{length};
+ghost use Rattle.format.specs.Digits.{digits};
+ghost use Rattle.format.specs.Pass.{put};
+ghost use Rattle.drawing.specs.Limits.{lengthLimit};
+ghost use Rattle.passes.specs.Sizes.{isField, isRun};
+ghost use Rattle.ways.specs.Way.{wide, far, valueAt};
+ghost use Rattle.ways.specs.Passes.{refusalOf, stepped};
+ghost use Rattle.ways.specs.Steps.{Fits, Small};
+ghost use Rattle.ways.specs.Runs.{AllSmall, HasWide, copied};
+ghost use Rattle.from_table.specs.Way.{way};
+
+pub type Unit = u32;
+
+pub type Kept = u8;
+
+// So many words are there, which they never are behind a refusal.
+pub fn there(src: &[Unit], at: usize, bytes: usize, words: usize) -> bool
+    requires { ⌜ at + way .source .pick bytes words < 2 ^ 60 ⌝ }
+    ensures { λ r. ⌜ Fits way bytes words (now (src .entry)) at r ⌝ }
+{
+    at + words <= src.len()
+}
+
+pub fn get(src: &[Unit], at: usize, size: usize) -> u64
+    requires { ⌜ (isField size ≡ true) × (at + wide way size ≤ length (now src)) ⌝ }
+    ensures { λ r. ⌜ (r ≡ valueAt way size (now (src .entry)) at) × (r < way .source .base ^ wide way size) ⌝ }
+{
+    word_value_at(&*src, at, size)
+}
+
+pub fn put(dst: &mut [Kept], to: usize, size: usize, value: u64)
+    requires { ⌜ (to < 2 ^ 60) × (isField size ≡ true) × (value < 256 ^ size) ⌝ }
+    ensures { λ r. ⌜ now (dst .exit) ≡ put to (digits (way .target .base) (far way size) value) (now (dst .entry)) ⌝ }
+{
+    write_value(dst, to, size, value);
+}
+
+// The source's units of a field.
+pub fn wide(size: usize) -> usize
+    requires { ⌜ size ≤ 8 ⌝ }
+    ensures { λ r. ⌜ r ≡ wide way size ⌝ }
+{
+    (size + 3) / 4
+}
+
+// Behind so many fields of a size.
+pub fn step(at: usize, to: usize, size: usize, count: usize) -> Pass
+    requires { ⌜ (size ≤ 8) × Small way size count at to ⌝ }
+    ensures { λ r. ⌜ r ≡ stepped way size count at to ⌝ }
+{
+    Pass {
+        at: at + count * ((size + 3) / 4),
+        to: to + count * size,
+    }
+}
+
+// Everything that is wrong with a table is 16, at no place.
+pub fn refusal(number: u32, at: usize) -> Pass
+    requires { ⌜ at < 2 ^ 60 ⌝ }
+    ensures { λ r. ⌜ r ≡ refusalOf way number at ⌝ }
+{
+    Pass {
+        at: REFUSED,
+        to: NO_TABLE as usize,
+    }
+}
+
+// So many fields, which are there, put one behind the other where they fit.
+pub fn copy(src: &[Unit], dst: &mut [Kept], at: usize, to: usize, size: usize, count: usize)
+    requires { ⌜ (isRun size ≡ true) × (at + count * wide way size ≤ length (now src)) × AllSmall way size (now src) at count ⌝ }
+    ensures { λ r. ⌜ now (dst .exit) ≡ copied way size count (now (src .entry)) at to (now (dst .entry)) ⌝ }
+{
+    write_run(&*src, at, dst, to, size, count);
+}
+
+// A unit that is no value of a field in a run: a word that is no char.
+pub fn has_wide(src: &[Unit], at: usize, size: usize, count: usize) -> bool
+    requires { ⌜ (isRun size ≡ true) × (at + count * wide way size ≤ length (now src)) × (length (now src) ≤ lengthLimit) ⌝ }
+    ensures { λ r. ⌜ HasWide way size (now (src .entry)) at count r ⌝ }
+{
+    if size == 2 {
+        if all_chars(&*src, at, count) {
+            return false;
+        }
+        return true;
+    }
+    false
+}
+
+// A place so many words further.
+pub fn past(at: usize, bytes: usize, words: usize) -> usize
+    requires { ⌜ at + way .source .pick bytes words < 2 ^ 60 ⌝ }
+    ensures { λ r. ⌜ r ≡ at + way .source .pick bytes words ⌝ }
+{
+    at + words
+}
