@@ -1,4 +1,5 @@
 // What is found in files: bytes that part them, words, runs of words, and chars.
+ghost use mathlib.Core.Path.{_≡_};
 ghost use Prim.Native.Nat.{_+_, _≤_, _<_};
 ghost use lib.ListN.{length};
 ghost use Rattle.io.specs.Counts.{Counts};
@@ -51,7 +52,7 @@ fn word_at(file: &[u8], at: usize) -> u32
 }
 
 pub fn wide(byte: u8) -> u32
-    ensures { λ r. ⌜ r < 256 ⌝ }
+    ensures { λ r. ⌜ (r ≡ byte) × (r < 256) ⌝ }
 {
     byte as u32
 }

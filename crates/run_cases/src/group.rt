@@ -1,4 +1,6 @@
 // The groups of a case's line: what a call answered, and the hashes of what was lent.
+ghost use mathlib.Core.Path.{_≡_};
+ghost use Prim.Native.Nat.{_≤_, _-_};
 use drawing::Answer;
 use text_out::Buffer;
 use text_out::put;
@@ -17,7 +19,9 @@ pub struct Group {
 }
 
 // A group begins with what parts it from what is before it.
-pub fn put_answer(buffer: &mut Buffer, used: usize, answer: Answer) -> usize {
+pub fn put_answer(buffer: &mut Buffer, used: usize, answer: Answer) -> usize
+    ensures { λ r. ⌜ r ≤ 4096 ⌝ }
+{
     let used = put_all(buffer, used, b" ;");
     let used = put_next(buffer, used, answer.number);
     let used = put_next(buffer, used, answer.offset);
@@ -26,7 +30,9 @@ pub fn put_answer(buffer: &mut Buffer, used: usize, answer: Answer) -> usize {
 }
 
 // A space and eight digits.
-pub fn put_hash(buffer: &mut Buffer, used: usize, hash: u32) -> usize {
+pub fn put_hash(buffer: &mut Buffer, used: usize, hash: u32) -> usize
+    ensures { λ r. ⌜ r ≤ 4096 ⌝ }
+{
     let used = put(buffer, used, b' ');
     let mut digits = [0u8; 16];
     let count = io::hex(hash as u64, 8, &mut digits);
@@ -34,7 +40,9 @@ pub fn put_hash(buffer: &mut Buffer, used: usize, hash: u32) -> usize {
 }
 
 // One less, for a room that is just too short.
-pub fn one_less(room: usize) -> usize {
+pub fn one_less(room: usize) -> usize
+    ensures { λ r. ⌜ r ≡ room - 1 ⌝ }
+{
     if room == 0 {
         return 0;
     }

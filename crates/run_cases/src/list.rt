@@ -1,4 +1,5 @@
 // Cases of `list`, and of the questions about the rows of the same table: a data file is a table's, with a label's chars behind it.
+ghost use Prim.Native.Nat.{_≤_};
 use crate::data::get_chars;
 use crate::data::least;
 use crate::group::FILL;
@@ -15,7 +16,9 @@ pub fn put_groups(
     contents: &[u32],
     bodies: &[u32],
     label: &[u32],
-) -> usize {
+) -> usize
+    ensures { λ r. ⌜ r ≤ 4096 ⌝ }
+{
     let mut chars = [0u16; 64];
     let count = get_chars(label, &mut chars);
     let used = put_lists(buffer, used, contents, bodies, &chars[..count]);
@@ -29,7 +32,9 @@ fn put_lists(
     contents: &[u32],
     bodies: &[u32],
     label: &[u16],
-) -> usize {
+) -> usize
+    ensures { λ r. ⌜ r ≤ 4096 ⌝ }
+{
     let first = put_group(buffer, used, contents, bodies, label, 9400);
     let answer = first.answer;
     if answer.number != 0 {
@@ -52,7 +57,9 @@ fn put_group(
     bodies: &[u32],
     label: &[u16],
     room: usize,
-) -> Group {
+) -> Group
+    ensures { λ r. ⌜ r .used ≤ 4096 ⌝ }
+{
     let mut entries = [FILL; 9400];
     let end = least(room, 9400);
     put_call(buffer, used, contents, bodies, label, &mut entries[0..end])
@@ -65,7 +72,9 @@ fn put_call(
     bodies: &[u32],
     label: &[u16],
     entries: &mut [u32],
-) -> Group {
+) -> Group
+    ensures { λ r. ⌜ r .used ≤ 4096 ⌝ }
+{
     let answer = jdr::list(contents, bodies, label, entries);
     let used = put_answer(buffer, used, answer);
     let used = put_hash(buffer, used, hash::of_words(entries));

@@ -1,4 +1,5 @@
 // Cases of `read`: a data file is a drawing's file.
+ghost use Prim.Native.Nat.{_≤_};
 use crate::data::least;
 use crate::group::FILL;
 use crate::group::Group;
@@ -9,7 +10,9 @@ use crate::hash;
 use text_out::Buffer;
 
 // The call with large rooms; and for an accepted file with rooms for its table and a part of a row more, a row short and a word short.
-pub fn put_groups(buffer: &mut Buffer, used: usize, file: &[u8]) -> usize {
+pub fn put_groups(buffer: &mut Buffer, used: usize, file: &[u8]) -> usize
+    ensures { λ r. ⌜ r ≤ 4096 ⌝ }
+{
     let first = put_group(buffer, used, file, 37452, 65536);
     let answer = first.answer;
     if answer.number != 0 {
@@ -18,7 +21,9 @@ pub fn put_groups(buffer: &mut Buffer, used: usize, file: &[u8]) -> usize {
     put_tight_groups(buffer, first.used, file, answer.rows, answer.words)
 }
 
-fn put_tight_groups(buffer: &mut Buffer, used: usize, file: &[u8], rows: u32, words: u32) -> usize {
+fn put_tight_groups(buffer: &mut Buffer, used: usize, file: &[u8], rows: u32, words: u32) -> usize
+    ensures { λ r. ⌜ r ≤ 4096 ⌝ }
+{
     let contents = 4 * rows as usize;
     let bodies = words as usize;
     let over = put_group(buffer, used, file, contents + 3, bodies);
@@ -34,7 +39,9 @@ fn put_group(
     file: &[u8],
     contents_room: usize,
     bodies_room: usize,
-) -> Group {
+) -> Group
+    ensures { λ r. ⌜ r .used ≤ 4096 ⌝ }
+{
     let mut contents = [FILL; 37455];
     let mut bodies = [FILL; 65536];
     let contents_end = least(contents_room, 37455);
@@ -54,7 +61,9 @@ fn put_call(
     file: &[u8],
     contents: &mut [u32],
     bodies: &mut [u32],
-) -> Group {
+) -> Group
+    ensures { λ r. ⌜ r .used ≤ 4096 ⌝ }
+{
     let answer = jdr::read(file, contents, bodies);
     let used = put_answer(buffer, used, answer);
     let used = put_hash(buffer, used, hash::of_words(contents));

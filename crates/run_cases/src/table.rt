@@ -1,4 +1,5 @@
 // Cases of `check` and `write`: a data file is a table's.
+ghost use Prim.Native.Nat.{_≤_};
 use crate::data::least;
 use crate::group::FILL_BYTE;
 use crate::group::Group;
@@ -9,7 +10,9 @@ use crate::hash;
 use text_out::Buffer;
 
 // The check; the writer with a large room; and for a table that is written, the writer with room for its file, and with a byte less.
-pub fn put_groups(buffer: &mut Buffer, used: usize, contents: &[u32], bodies: &[u32]) -> usize {
+pub fn put_groups(buffer: &mut Buffer, used: usize, contents: &[u32], bodies: &[u32]) -> usize
+    ensures { λ r. ⌜ r ≤ 4096 ⌝ }
+{
     let used = put_answer(buffer, used, jdr::check(contents, bodies));
     let first = put_group(buffer, used, contents, bodies, 65536);
     let answer = first.answer;
@@ -29,7 +32,9 @@ fn put_group(
     contents: &[u32],
     bodies: &[u32],
     room: usize,
-) -> Group {
+) -> Group
+    ensures { λ r. ⌜ r .used ≤ 4096 ⌝ }
+{
     let mut file = [FILL_BYTE; 65536];
     let end = least(room, 65536);
     put_call(buffer, used, contents, bodies, &mut file[0..end])
@@ -41,7 +46,9 @@ fn put_call(
     contents: &[u32],
     bodies: &[u32],
     file: &mut [u8],
-) -> Group {
+) -> Group
+    ensures { λ r. ⌜ r .used ≤ 4096 ⌝ }
+{
     let answer = jdr::write(contents, bodies, file);
     let used = put_answer(buffer, used, answer);
     let used = put_hash(buffer, used, hash::of_bytes(file));

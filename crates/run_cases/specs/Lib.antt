@@ -1,0 +1,2 @@
+-- The hash of lent memory.
+pub mod Hash
