@@ -1,5 +1,10 @@
 // The drawing layer: what a drawing is, its file, its table, and what each call answers. Its definitions and laws are in
-// specs/; here are the types of the answers that they speak of. Those that are `#[repr(C)]` go to programs in C as they are.
+// specs/; here are the types of the answers that they speak of, and the names of numbers. Types that are `#[repr(C)]` go to programs in C as they are.
+pub mod head;
+pub mod letters;
+pub mod limits;
+pub mod numbers;
+pub mod row;
 
 // What a call gives back: 01's number, the offset, and the counts of rows and words.
 #[repr(C)]

@@ -1,11 +1,11 @@
 // The primitives of the way from a table's words to a file's bytes.
+use drawing::numbers::NO_TABLE;
 use fields::words::word_value_at;
 use passes::runs::all_chars;
 use passes::runs::write_run;
 use passes::target::write_value;
 use ways::Pass;
 use ways::REFUSED;
-use ways::numbers::NO_TABLE;
 ghost use mathlib.Core.Path.{_≡_};
 ghost use mathlib.Core.Bool.{true};
 ghost use Prim.Native.Nat.{_+_, _*_, _^_, _<_, _≤_};
