@@ -20,6 +20,7 @@ second make-cases DIR [SEED]             cases of all calls
 second compare [--seconds N] [--seed S] [--out DIR] [--trace FILE]
                                          compares the linked library (built with --features linked)
 second bench                             measures the linked library beside this program
+second stack                             measures the deepest stack of each call of the linked library
 second bench-calls PLANS CALL WHO TIMES  the same calls over and over, for a tool that counts instructions";
 
 fn main() -> ExitCode {
@@ -34,6 +35,7 @@ fn main() -> ExitCode {
         ["make-cases", folder, seed] => number(seed).and_then(|seed| make_cases(folder, seed)),
         ["compare", ref options @ ..] => compare(options),
         ["bench"] => bench(),
+        ["stack"] => stack(),
         ["bench-calls", plans, call, who, times] => bench_calls(plans, call, who, times),
         _ => Err(USAGE.to_string()),
     };
@@ -103,6 +105,11 @@ fn bench() -> Result<ExitCode, String> {
 }
 
 #[cfg(feature = "linked")]
+fn stack() -> Result<ExitCode, String> {
+    bench::stack::run()
+}
+
+#[cfg(feature = "linked")]
 fn bench_calls(plans: &str, call: &str, who: &str, times: &str) -> Result<ExitCode, String> {
     bench::calls(plans, call, who, number(times)?)
 }
@@ -112,6 +119,11 @@ const UNLINKED: &str = "this program was built without the library: see --featur
 
 #[cfg(not(feature = "linked"))]
 fn compare(_options: &[&str]) -> Result<ExitCode, String> {
+    Err(UNLINKED.to_string())
+}
+
+#[cfg(not(feature = "linked"))]
+fn stack() -> Result<ExitCode, String> {
     Err(UNLINKED.to_string())
 }
 

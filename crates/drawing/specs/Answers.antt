@@ -3,6 +3,7 @@ use Prim.Native.Nat.{ℕ, zero, suc, _/_}
 use mathlib.Core.List.{List, _++_}
 use lib.ListN.{length, drop}
 use lib.Dec.{leb}
+use Rattle.drawing.specs.Numbers.{accepted, contentsTooShort, bodiesTooShort, noTable, outputTooShort, listTooShort}
 use Rattle.drawing.specs.declared.Answer.{Answer}
 use Rattle.drawing.specs.Fields.{unless, orElse}
 use Rattle.drawing.specs.String.{String}
@@ -37,12 +38,12 @@ unread n o contents bodies = record { answer = answer n o 0 0; contents = conten
 -- What the lent room lacks for a drawing's table, 0 for nothing: rows, of four words each, and then words.
 abbrev pub roomFault : Drawing → (contents bodies : List ℕ) → ℕ
 roomFault d contents bodies =
-    orElse (unless (leb (rowsOf d) (length contents / rowWidth)) 14) (unless (leb (wordCount d) (length bodies)) 15)
+    orElse (unless (leb (rowsOf d) (length contents / rowWidth)) contentsTooShort) (unless (leb (wordCount d) (length bodies)) bodiesTooShort)
 
 -- A drawing, of a file of this length, that is stored unless the room has a fault.
 abbrev pub stored : (fault : ℕ) → Drawing → ℕ → (contents bodies : List ℕ) → ReadResult
 stored zero d total contents bodies =
-    record { answer = answer 0 total (rowsOf d) (wordCount d); contents = overwrite (contentsOf d) contents; bodies = overwrite (bodiesOf d) bodies }
+    record { answer = answer accepted total (rowsOf d) (wordCount d); contents = overwrite (contentsOf d) contents; bodies = overwrite (bodiesOf d) bodies }
 stored (suc n) d total contents bodies =
     record { answer = answer (suc n) total (rowsOf d) (wordCount d); contents = contents; bodies = bodies }
 
@@ -51,11 +52,11 @@ fileRead d contents bodies = stored (roomFault d contents bodies) d (length (fil
 
 -- ---- checking a table
 
-abbrev pub noTable : Answer
-noTable = answer 16 0 0 0
+abbrev pub tableRefused : Answer
+tableRefused = answer noTable 0 0 0
 
 abbrev pub tableChecked : Drawing → Answer
-tableChecked d = answer 0 (length (fileOf d)) (rowsOf d) (wordCount d)
+tableChecked d = answer accepted (length (fileOf d)) (rowsOf d) (wordCount d)
 
 -- ---- writing a table's file
 
@@ -66,20 +67,20 @@ pub record Output : Type 0 where
 
 -- No table, and nothing is stored.
 abbrev pub nothingStored : (buffer : List ℕ) → Output
-nothingStored buffer = record { answer = noTable; buffer = buffer }
+nothingStored buffer = record { answer = tableRefused; buffer = buffer }
 
 abbrev pub written : (fault : ℕ) → Drawing → (file : List ℕ) → Output
 written zero d file = record { answer = tableChecked d; buffer = overwrite (fileOf d) file }
 written (suc n) d file = record { answer = answer (suc n) (length (fileOf d)) 0 0; buffer = file }
 
 abbrev pub tableWritten : (file : List ℕ) → Drawing → Output
-tableWritten file d = written (unless (leb (length (fileOf d)) (length file)) 17) d file
+tableWritten file d = written (unless (leb (length (fileOf d)) (length file)) outputTooShort) d file
 
 -- ---- listing the objects with a label
 
 abbrev pub listed : (fault : ℕ) → (entries list : List ℕ) → Output
-listed zero entries list = record { answer = answer 0 0 (length entries) 0; buffer = overwrite entries list }
+listed zero entries list = record { answer = answer accepted 0 (length entries) 0; buffer = overwrite entries list }
 listed (suc n) entries list = record { answer = answer (suc n) (length entries) 0 0; buffer = list }
 
 abbrev pub tableListed : String → (list : List ℕ) → Drawing → Output
-tableListed label list d = listed (unless (leb (length (entries label d)) (length list)) 18) (entries label d) list
+tableListed label list d = listed (unless (leb (length (entries label d)) (length list)) listTooShort) (entries label d) list

@@ -4,6 +4,7 @@ use mathlib.Core.Option.{Option, none, some}
 use Prim.Native.Nat.{ℕ}
 use mathlib.Core.List.{List}
 use lib.ListN.{length}
+use Rattle.drawing.specs.Numbers.{noTable}
 use Rattle.drawing.specs.declared.Answer.{Answer}
 use Rattle.drawing.specs.declared.PaintAnswer.{PaintAnswer}
 use Rattle.drawing.specs.declared.PaintAnswer.the-variants.{Refused}
@@ -15,7 +16,7 @@ use Rattle.drawing.specs.Drawing.{Drawing}
 use Rattle.drawing.specs.Reading.{Reading, drawing, refusal, drawingOf}
 use Rattle.drawing.specs.Table.{startIn}
 use Rattle.drawing.specs.TableDrawing.{drawingOfTable}
-use Rattle.drawing.specs.Answers.{ReadResult, unread, roomFault, stored, noTable, tableChecked, Output, nothingStored, tableWritten, tableListed}
+use Rattle.drawing.specs.Answers.{ReadResult, unread, roomFault, stored, tableRefused, tableChecked, Output, nothingStored, tableWritten, tableListed}
 use Rattle.drawing.specs.Questions.{partOf, leafPart, paintAsked, TextGiven, noText, textPlaces}
 
 -- What a call comes to for the table of a drawing, and for runs that are no table.
@@ -35,7 +36,7 @@ readResult file contents bodies = readFrom (drawingOf file) (length file) conten
 -- ---- checking, writing, listing
 
 abbrev pub checkFrom : Option Drawing → Answer
-checkFrom o = fromTable tableChecked noTable o
+checkFrom o = fromTable tableChecked tableRefused o
 
 abbrev pub checkAnswer : (contents bodies : List ℕ) → Answer
 checkAnswer contents bodies = checkFrom (drawingOfTable contents bodies)
@@ -55,7 +56,7 @@ listOutput contents bodies label list = listFrom (drawingOfTable contents bodies
 -- ---- questions
 
 abbrev pub paintAnswer : (contents bodies : List ℕ) → ℕ → Which → PaintAnswer
-paintAnswer contents bodies row which = fromTable (paintAsked which row) (Refused 16) (drawingOfTable contents bodies)
+paintAnswer contents bodies row which = fromTable (paintAsked which row) (Refused noTable) (drawingOfTable contents bodies)
 
 -- What is given of a text, as the public answer has it.
 abbrev pub textValue : TextGiven → TextAnswer
@@ -66,4 +67,4 @@ abbrev pub textIn : (contents : List ℕ) → ℕ → Drawing → TextAnswer
 textIn contents row d = textValue (textPlaces (startIn contents row) (d .version) (partOf (leafPart textOf) row d))
 
 abbrev pub textAnswer : (contents bodies : List ℕ) → ℕ → TextAnswer
-textAnswer contents bodies row = fromTable (textIn contents row) (textValue (noText 16)) (drawingOfTable contents bodies)
+textAnswer contents bodies row = fromTable (textIn contents row) (textValue (noText noTable)) (drawingOfTable contents bodies)

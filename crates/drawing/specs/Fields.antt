@@ -14,6 +14,7 @@ use Rattle.format.specs.Digits.{number}
 use Rattle.format.specs.Kind.{Kind, Shape}
 use Rattle.format.specs.Kind as K
 use Rattle.format.specs.FloatRange.{fromZeroTo, fromZeroBelow}
+use Rattle.drawing.specs.Numbers.{noJdr, badVersion, outOfRange, badChar, badCount, badComponent, tooDeep, flowFrame, unjoined}
 use Rattle.drawing.specs.Limits.{lastMinor}
 
 -- ---- faults
@@ -38,10 +39,10 @@ abbrev pub jdr : ℕ
 jdr = number (2 ^ 16) (code "J" ∷ code "D" ∷ code "R" ∷ [])
 
 abbrev pub magic : Kind
-magic = record { shape = K.chars 3; fault = λ v. unless (eqb v jdr) 3 }
+magic = record { shape = K.chars 3; fault = λ v. unless (eqb v jdr) noJdr }
 
 abbrev pub versionLength : Kind
-versionLength = record { shape = K.integer; fault = λ v. unless (eqb v 3) 4 }
+versionLength = record { shape = K.integer; fault = λ v. unless (eqb v 3) badVersion }
 
 -- the chars 1.0, as one field; those of 1.m are m more
 abbrev pub versionZero : ℕ
@@ -49,7 +50,7 @@ versionZero = number (2 ^ 16) (code "1" ∷ code "." ∷ code "0" ∷ [])
 
 abbrev pub versionChars : Kind
 versionChars =
-    record { shape = K.chars 3; fault = λ v. unless (leb versionZero v && leb v (versionZero + lastMinor)) 4 }
+    record { shape = K.chars 3; fault = λ v. unless (leb versionZero v && leb v (versionZero + lastMinor)) badVersion }
 
 -- ---- flags, bytes, integers
 
@@ -58,28 +59,28 @@ flag = any K.flag
 
 -- no flow frame data is carried: 1 is 11
 abbrev pub flowFlag : Kind
-flowFlag = record { shape = K.flag; fault = λ v. unless (eqb v 0) 11 }
+flowFlag = record { shape = K.flag; fault = λ v. unless (eqb v 0) flowFrame }
 
 -- The signed number is in the range.
 abbrev pub inRange : ℕ → ℕ → ℤ → Bool
 inRange low high z = leZ (pos low) z && leZ z (pos high)
 
 abbrev pub byteIn : ℕ → ℕ → Kind
-byteIn low high = record { shape = K.byte; fault = λ v. unless (inRange low high (toZ w8 v)) 6 }
+byteIn low high = record { shape = K.byte; fault = λ v. unless (inRange low high (toZ w8 v)) outOfRange }
 
 abbrev pub integer : Kind
 integer = any K.integer
 
 abbrev pub integerIn : ℕ → ℕ → Kind
-integerIn low high = record { shape = K.integer; fault = λ v. unless (inRange low high (toZ w32 v)) 6 }
+integerIn low high = record { shape = K.integer; fault = λ v. unless (inRange low high (toZ w32 v)) outOfRange }
 
 abbrev pub fontSize : Kind
-fontSize = record { shape = K.integer; fault = λ v. unless (leZ (pos 0) (toZ w32 v)) 6 }
+fontSize = record { shape = K.integer; fault = λ v. unless (leZ (pos 0) (toZ w32 v)) outOfRange }
 
 -- ---- counts and lengths
 
 abbrev pub count : ℕ → Kind
-count least = record { shape = K.integer; fault = λ v. unless (leZ (pos least) (toZ w32 v)) 8 }
+count least = record { shape = K.integer; fault = λ v. unless (leZ (pos least) (toZ w32 v)) badCount }
 
 -- how many objects a group has
 abbrev pub memberCount : Kind
@@ -90,10 +91,10 @@ abbrev pub segmentCount : Kind
 segmentCount = count 1
 
 abbrev pub dashCount : Kind
-dashCount = record { shape = K.integer; fault = λ v. unless (leZ (pos 0) (toZ w32 v) && eqb (v % 2) 0) 8 }
+dashCount = record { shape = K.integer; fault = λ v. unless (leZ (pos 0) (toZ w32 v) && eqb (v % 2) 0) badCount }
 
 abbrev pub stringLength : ℕ → Kind
-stringLength least = record { shape = K.stringLength; fault = λ v. unless (leZ (pos least) (toZ w32 v)) 8 }
+stringLength least = record { shape = K.stringLength; fault = λ v. unless (leZ (pos least) (toZ w32 v)) badCount }
 
 abbrev pub stringChar : Bool → Kind
 stringChar last = any (K.stringChar last)
@@ -102,7 +103,7 @@ stringChar last = any (K.stringChar last)
 
 -- a char that the test lets pass
 abbrev pub charWhere : (ℕ → Bool) → Kind
-charWhere allowed = record { shape = K.char; fault = λ v. unless (allowed v) 7 }
+charWhere allowed = record { shape = K.char; fault = λ v. unless (allowed v) badChar }
 
 abbrev pub oneOfChars : List ℕ → ℕ → Bool
 oneOfChars [] c = false
@@ -110,14 +111,14 @@ oneOfChars (x ∷ xs) c = eqb c x || oneOfChars xs c
 
 -- An object's id is a leaf's (`leaf`), or a group's (`group`) where one may nest deeper; any other is not allowed.
 abbrev pub objectFault : (leaf group deeper : Bool) → ℕ
-objectFault leaf group deeper = cond leaf 0 (cond group (unless deeper 10) 7)
+objectFault leaf group deeper = cond leaf 0 (cond group (unless deeper tooDeep) badChar)
 
 abbrev pub objectId : (leaf : ℕ → Bool) (deeper : Bool) → Kind
 objectId leaf deeper = record { shape = K.char; fault = λ v. objectFault (leaf v) (eqb v (code "G")) deeper }
 
 -- A marker's id is in the list, and then it is 0 or the chain may go on.
 abbrev pub markerFault : (listed may : Bool) → ℕ
-markerFault listed may = orElse (unless listed 6) (unless may 10)
+markerFault listed may = orElse (unless listed outOfRange) (unless may tooDeep)
 
 abbrev pub markerId : ℕ → Bool → Kind
 markerId high more = record { shape = K.byte; fault = λ v. markerFault (inRange 0 high (toZ w8 v)) (more || eqb v 0) }
@@ -132,12 +133,12 @@ double = any K.double
 
 -- a paint's component, from 0 to 1
 abbrev pub component : Kind
-component = record { shape = K.float; fault = λ v. unless (fromZeroTo binary32 1 v) 9 }
+component = record { shape = K.float; fault = λ v. unless (fromZeroTo binary32 1 v) badComponent }
 
 -- from 0 up to but not 360
 abbrev pub hue : Kind
-hue = record { shape = K.float; fault = λ v. unless (fromZeroBelow binary32 360 v) 9 }
+hue = record { shape = K.float; fault = λ v. unless (fromZeroBelow binary32 360 v) badComponent }
 
 -- a coordinate with the very bits of another
 abbrev pub joined : ℕ → Kind
-joined bits = record { shape = K.double; fault = λ v. unless (eqb v bits) 12 }
+joined bits = record { shape = K.double; fault = λ v. unless (eqb v bits) unjoined }

@@ -6,8 +6,9 @@ use Prim.Native.Char.{code}
 use mathlib.Core.List.{List, [], _∷_}
 use lib.Dec.{leb}
 use Rattle.format.specs.Layout.{Layout, when, constant, _&_}
-use Rattle.format.specs.Alternative.{Alternative, among, told}
+use Rattle.format.specs.Alternative.{Alternative, among, chosen}
 use Rattle.format.specs.Choice.{alternative}
+use Rattle.drawing.specs.Limits.{v1-2}
 use Rattle.drawing.specs.Fields.{flowFlag}
 use Rattle.drawing.specs.FieldLaws.{flow-flag-only}
 use Rattle.drawing.specs.String.{String, string}
@@ -32,8 +33,8 @@ isLeaf v c = among (pathCase v) (otherCases v) c
 
 -- What ends an object: the flow frame flag, and from 1.2 on the description.
 abbrev pub objectEnd : ℕ → Layout String
-objectEnd v = constant flowFlag 0 flow-flag-only (when (leb 2 v) (string 0) [])
+objectEnd v = constant flowFlag 0 flow-flag-only (when (leb v1-2 v) (string 0) [])
 
 -- What follows a leaf's id.
 abbrev pub leafBody : ℕ → ℕ → Layout (Leaf × String)
-leafBody v letter = told (pathCase v) (otherCases v) letter & objectEnd v
+leafBody v letter = chosen (pathCase v) (otherCases v) letter & objectEnd v

@@ -1,4 +1,5 @@
 -- The drawing layer: JDR drawings of the versions 1.0 to 1.4, their files and tables, and what each call answers.
+pub mod Numbers
 pub mod Limits
 pub mod Codecs
 pub mod Fields

@@ -5,6 +5,19 @@ use Prim.Native.Nat.{ℕ}
 abbrev pub lastMinor : ℕ
 lastMinor = 4
 
+-- the versions with which fields change
+abbrev pub v1-1 : ℕ
+v1-1 = 1
+
+abbrev pub v1-2 : ℕ
+v1-2 = 2
+
+abbrev pub v1-3 : ℕ
+v1-3 = 3
+
+abbrev pub v1-4 : ℕ
+v1-4 = 4
+
 -- the most bytes that a file may have
 abbrev pub lengthLimit : ℕ
 lengthLimit = 65_535

@@ -5,6 +5,7 @@ use mathlib.Core.List.{List, []}
 use lib.ListN.{length}
 use lib.Dec.{leb, ltb, eqb}
 use Rattle.format.specs.Layout.{Layout, field, when, counted, renamed, _&_, _▸_}
+use Rattle.drawing.specs.Limits.{v1-1}
 use Rattle.drawing.specs.Fields.{float, dashCount, byteIn}
 use Rattle.drawing.specs.Marker.{Marker}
 use Rattle.drawing.specs.MarkerChain.{markers}
@@ -33,7 +34,7 @@ lineStyle v =
     & (field (byteIn 0 2) ▸ λ join. when (eqb join 0) (field float) 0)
     & field (byteIn 0 1)
     & markers v
-    & when (leb 1 v) (markers v) []
+    & when (leb v1-1 v) (markers v) []
     & markers v)
     (λ (width, ((dashes, dashOffset), (cap, ((join, mitreLimit), (winding, (start, (mid, end))))))).
     record { width = width; dashes = dashes; dashOffset = dashOffset; cap = cap; join = join; mitreLimit = mitreLimit; winding = winding; start = start; mid = mid; end = end })

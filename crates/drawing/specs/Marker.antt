@@ -6,6 +6,7 @@ use Prim.Native.Nat.{ℕ}
 use mathlib.Core.List.{List, [], _∷_}
 use lib.Dec.{leb, eqb}
 use Rattle.format.specs.Layout.{Layout, field, either, when, renamed, _&_, _▸_}
+use Rattle.drawing.specs.Limits.{v1-1, v1-4}
 use Rattle.drawing.specs.Fields.{flag, byteIn, float}
 use Rattle.drawing.specs.Choices.{ifFlag, unlessFlag}
 use Rattle.drawing.specs.Paint.{Plain, transparent, plainPaint}
@@ -27,7 +28,7 @@ pub record Marker : Type 0 where
 
 -- The highest marker id.
 abbrev pub lastMarker : ℕ → ℕ
-lastMarker v = cond (leb 4 v) 79 (cond (leb 1 v) 21 7)
+lastMarker v = cond (leb v1-4 v) 79 (cond (leb v1-1 v) 21 7)
 
 -- The id that a chain begins with; 0 is that of none.
 abbrev pub firstId : List Marker → ℕ
@@ -53,11 +54,11 @@ abbrev pub marker : ℕ → ℕ → Layout Marker
 marker v id =
     renamed
     (field float & field (byteIn 1 3) & field flag & unlessFlag (field float) & plainPaint v
-    & (field flag ▸ λ overlay. when (leb 4 v && eqb overlay 0) (ifFlag (field float) & ifFlag (field float)) (none, none)))
+    & (field flag ▸ λ overlay. when (leb v1-4 v && eqb overlay 0) (ifFlag (field float) & ifFlag (field float)) (none, none)))
     (λ (size, (repeat, (reversed, (angle, (paint, (overlay, (offset, repeatOffset))))))).
     record { id = id; size = size; double = 0; repeat = repeat; reversed = reversed; angle = angle; paint = paint; overlay = overlay; offset = offset; repeatOffset = repeatOffset })
     (λ m. (m .size, (m .repeat, (m .reversed, (m .angle, (m .paint, (m .overlay, (m .offset, m .repeatOffset))))))))
     (λ t good. refl)
 
 abbrev pub markerBody : ℕ → ℕ → Layout Marker
-markerBody v id = either (leb 1 v) (marker v id) (arrow id)
+markerBody v id = either (leb v1-1 v) (marker v id) (arrow id)

@@ -5,7 +5,7 @@ use Prim.Native.Nat.{ℕ, zero, suc}
 use mathlib.Core.List.{List, [], _∷_}
 use lib.Dec.{leb, eqb}
 use Rattle.format.specs.Layout.{Layout, field, nothing, either, when, case, implied, _&_}
-use Rattle.drawing.specs.Limits.{markerLimit}
+use Rattle.drawing.specs.Limits.{markerLimit, v1-1}
 use Rattle.drawing.specs.Fields.{markerId}
 use Rattle.drawing.specs.Marker.{Marker, lastMarker, firstId, headAndTail, markerBody}
 use Rattle.drawing.specs.MarkerLaws.{last-id, chain-id}
@@ -19,9 +19,9 @@ chain v (suc left) =
     (λ id.
     either (eqb id 0)
     (nothing [])
-    (case (markerBody v id & when (leb 1 v) (chain v left) []) (λ t. t .0 ∷ t .1) headAndTail (λ t good. refl)))
+    (case (markerBody v id & when (leb v1-1 v) (chain v left) []) (λ t. t .0 ∷ t .1) headAndTail (λ t good. refl)))
     firstId
-    (chain-id v (lastMarker v) (when (leb 1 v) (chain v left) []))
+    (chain-id v (lastMarker v) (when (leb v1-1 v) (chain v left) []))
 
 abbrev pub markers : ℕ → Layout (List Marker)
 markers v = chain v markerLimit

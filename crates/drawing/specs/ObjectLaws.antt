@@ -10,7 +10,7 @@ use borrow.Author.Tests.{eqb-true}
 use Rattle.format.specs.Kind.{Allowed}
 use Rattle.format.specs.Format.{Made}
 use Rattle.format.specs.Layout.{Layout}
-use Rattle.format.specs.AlternativeLaws.{told-tells}
+use Rattle.format.specs.AlternativeLaws.{chosen-tells}
 use Rattle.drawing.specs.Fields.{objectFault, objectId}
 use Rattle.drawing.specs.String.{String}
 use Rattle.drawing.specs.Object.{Object, leaf, group, Objects, listOf, ofList}
@@ -32,7 +32,7 @@ id-of-group true e = refl
 id-of-group false e = absurd (omega arith)
 
 leaf-letter : (v c : ℕ) (o : Object) → isLeaf v c ≡ true → Made (leafBody v c .Good) (λ (l, d). leaf l d) o (leafOf o) → objectLetter o ≡ c
-leaf-letter v c (leaf l d) h g = told-tells (pathCase v) (otherCases v) c l h (g .1 .0)
+leaf-letter v c (leaf l d) h g = chosen-tells (pathCase v) (otherCases v) c l h (g .1 .0)
 leaf-letter v c (group os d) h g = absurd g
 
 pub leaf-tells : (v c : ℕ) (o : Object) → Allowed (objectId (isLeaf v) false) c → Made (leafBody v c .Good) (λ (l, d). leaf l d) o (leafOf o) → objectLetter o ≡ c

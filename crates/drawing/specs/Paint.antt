@@ -9,6 +9,7 @@ use lib.Dec.{leb}
 use Rattle.format.specs.Layout.{Layout, field, nothing, _&_}
 use Rattle.format.specs.Alternative.{Alternative}
 use Rattle.format.specs.Choice.{alternative, within}
+use Rattle.drawing.specs.Limits.{v1-3, v1-4}
 use Rattle.drawing.specs.Fields.{component, hue, integerIn}
 use Rattle.drawing.specs.Choices.{byChar}
 
@@ -88,9 +89,9 @@ plainCases v =
     (λ (r, (g, (b, a))). rgb r g b a) (λ p. some (firstFour p)) (λ c. refl) (λ c. refl)
     ∷ alternative (code "C") true cmykComponents
     (λ (c, (m, (y, (k, a)))). cmyk c m y k a) (λ p. some (components p)) (λ c. refl) (λ c. refl)
-    ∷ alternative (code "Y") (leb 4 v) greyComponents
+    ∷ alternative (code "Y") (leb v1-4 v) greyComponents
     (λ (g, a). grey g a) (λ p. some (firstTwo p)) (λ c. refl) (λ c. refl)
-    ∷ alternative (code "S") (leb 4 v) hsbComponents
+    ∷ alternative (code "S") (leb v1-4 v) hsbComponents
     (λ (h, (s, (b, a))). hsb h s b a) (λ p. some (firstFour p)) (λ c. refl) (λ c. refl)
     ∷ []
 
@@ -107,7 +108,7 @@ abbrev pub gradientCases : ℕ → List (Alternative Paint paintLetter)
 gradientCases v =
     alternative (code "G") true (plainPaint v & plainPaint v & field (integerIn 0 7))
     (λ (start, (end, direction)). linear start end direction) gradientOf (λ g. refl) (λ g. refl)
-    ∷ alternative (code "D") (leb 3 v) (plainPaint v & plainPaint v & field (integerIn 0 8))
+    ∷ alternative (code "D") (leb v1-3 v) (plainPaint v & plainPaint v & field (integerIn 0 8))
     (λ (start, (end, location)). radial start end location) gradientOf (λ g. refl) (λ g. refl)
     ∷ []
 

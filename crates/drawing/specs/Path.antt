@@ -10,6 +10,7 @@ use lib.Dec.{leb, ltb}
 use Rattle.format.specs.Layout.{Layout, field, when, threaded, implied, renamed, _&_}
 use Rattle.format.specs.FormatLaws.{each-length}
 use Rattle.format.specs.Choice.{alternative}
+use Rattle.drawing.specs.Limits.{v1-3}
 use Rattle.drawing.specs.Fields.{double, joined, segmentCount, charWhere, oneOfChars}
 use Rattle.drawing.specs.Choices.{byChar}
 use Rattle.drawing.specs.Paint.{Paint, paint}
@@ -83,16 +84,16 @@ segment own before =
     ∷ [])
 
 abbrev pub segments : ℕ → ℕ → Layout (List Segment)
-segments v n = threaded n (segment (ltb v 3)) (λ before s. some (endOf s)) none
+segments v n = threaded n (segment (ltb v v1-3)) (λ before s. some (endOf s)) none
 
 -- A count, the start point from 1.3 on, and as many segments.
 abbrev pub outline : ℕ → Layout (Point × List Segment)
 outline v =
     implied
     (field segmentCount)
-    (λ n. when (leb 3 v) point origin & segments v n)
+    (λ n. when (leb v1-3 v) point origin & segments v n)
     (λ t. length (t .1))
-    (λ n t allowed good. each-length (λ before. segment (ltb v 3) before .Good) (λ before s. some (endOf s)) n none (t .1) (good .1))
+    (λ n t allowed good. each-length (λ before. segment (ltb v v1-3) before .Good) (λ before s. some (endOf s)) n none (t .1) (good .1))
 
 abbrev pub path : ℕ → Layout Path
 path v =

@@ -7,6 +7,7 @@ use mathlib.Core.List.{List, []}
 use lib.ListN.{length, take, drop, getElem?}
 use lib.Dec.{ltb}
 use lib.Ieee.{Float, binary32, ofBits}
+use Rattle.drawing.specs.Numbers.{noRow, noPart}
 use Rattle.drawing.specs.declared.Paint as PaintEnum
 use Rattle.drawing.specs.declared.Paint.the-variants as PaintCase
 use Rattle.drawing.specs.declared.PaintAnswer.{PaintAnswer}
@@ -39,8 +40,8 @@ orRefusal n none = refusal n
 orRefusal n (some a) = part a
 
 abbrev pub partAt : {A : Type 0} → (Object → Option A) → Option Object → Found A
-partAt has none = refusal 6
-partAt has (some o) = orRefusal 7 (has o)
+partAt has none = refusal noRow
+partAt has (some o) = orRefusal noPart (has o)
 
 -- The part of the object with this row number in a drawing.
 abbrev pub partOf : {A : Type 0} → (Object → Option A) → ℕ → Drawing → Found A

@@ -7,6 +7,7 @@ use lib.Dec.{ltb}
 use Rattle.format.specs.Codec.{Codec, Outcome, found, refused}
 use Rattle.format.specs.FixedReading.{fixed}
 use Rattle.format.specs.Parse.{parse}
+use Rattle.drawing.specs.Numbers.{tooLong, trailingBytes}
 use Rattle.drawing.specs.Codecs.{byteFields, wordFields}
 use Rattle.drawing.specs.Limits.{lengthLimit}
 use Rattle.drawing.specs.Drawing.{Drawing, file}
@@ -26,8 +27,8 @@ pub data Reading : Type 0 where
 -- Of bytes, this many in all: what is left from a place on tells its offset. Bytes behind the outer group are 13.
 abbrev pub reading : ℕ → Outcome Drawing → Reading
 reading total (found d []) = drawing d
-reading total (found d (b ∷ rest)) = refusal 13 (total - length (b ∷ rest))
+reading total (found d (b ∷ rest)) = refusal trailingBytes (total - length (b ∷ rest))
 reading total (refused n at) = refusal n (total - length at)
 
 abbrev pub drawingOf : List ℕ → Reading
-drawingOf bs = cond (ltb lengthLimit (length bs)) (refusal 1 lengthLimit) (reading (length bs) (parse bytes file bs))
+drawingOf bs = cond (ltb lengthLimit (length bs)) (refusal tooLong lengthLimit) (reading (length bs) (parse bytes file bs))

@@ -7,6 +7,7 @@ use lib.ListN.{length}
 use Rattle.format.specs.Kind.{Kind, Field}
 use Rattle.format.specs.Spelling.{spellAll}
 use Rattle.format.specs.FixedCodec.{spellFixed, Cut, Faulty}
+use Rattle.drawing.specs.Numbers.{tooLong, trailingBytes}
 use Rattle.drawing.specs.Codecs.{byteFields}
 use Rattle.format.specs.Script.{Script, end, Asks}
 use Rattle.format.specs.Format.{script}
@@ -19,7 +20,7 @@ fileScript = script (file .format) (λ d. end d)
 
 pub record TooLong (bs : List ℕ) (number offset : ℕ) : Type 0 where
   pub long : lengthLimit < length bs
-  pub number-is : number ≡ 1
+  pub number-is : number ≡ tooLong
   pub offset-is : offset ≡ lengthLimit
 
 -- The bytes spell some fields, each allowed where the layout asks for it, and then stands the field at fault: cut, or with that fault.
@@ -41,7 +42,7 @@ pub record Trailing (bs : List ℕ) (number offset : ℕ) : Type 0 where
   pub good : file .Good drawing
   pub split : bs ≡ fileOf drawing ++ rest
   pub some-left : 0 < length rest
-  pub number-is : number ≡ 13
+  pub number-is : number ≡ trailingBytes
   pub offset-is : offset ≡ length (fileOf drawing)
 
 abbrev pub Refused : List ℕ → (number offset : ℕ) → Type 0

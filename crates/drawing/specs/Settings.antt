@@ -8,6 +8,7 @@ use lib.Dec.{leb, ltb, eqb}
 use Rattle.format.specs.Layout.{Layout, field, nothing, either, when, renamed, _&_, _▸_}
 use Rattle.format.specs.Alternative.{Alternative}
 use Rattle.format.specs.Choice.{oneOf, alternative}
+use Rattle.drawing.specs.Limits.{v1-3}
 use Rattle.drawing.specs.Fields.{flag, byteIn, integer, integerIn, double}
 use Rattle.drawing.specs.SettingsLaws.{one-of-two, one-of-three}
 
@@ -55,8 +56,8 @@ paperOf (paperOnly p) = some p
 abbrev pub paper : ℕ → Layout Paper
 paper v =
     renamed
-    (field (byteIn 0 (cond (leb 3 v) 72 18))
-    ▸ λ size. when (eqb size 18) (field double & field double & when (ltb v 3) (field flag) 0) (0, (0, 0)))
+    (field (byteIn 0 (cond (leb v1-3 v) 72 18))
+    ▸ λ size. when (eqb size 18) (field double & field double & when (ltb v v1-3) (field flag) 0) (0, (0, 0)))
     (λ (size, (width, (height, portrait))). record { size = size; width = width; height = height; portrait = portrait })
     (λ p. (p .size, (p .width, (p .height, p .portrait))))
     (λ t good. refl)
@@ -82,6 +83,6 @@ paperCase v = alternative 2 true (paper v) paperOnly paperOf (λ p. refl) (λ p.
 -- Below 1.3 a flag tells which settings there are, from 1.3 on a byte.
 abbrev pub settings : ℕ → Layout Settings
 settings v =
-    either (leb 3 v)
+    either (leb v1-3 v)
     (oneOf (byteIn 0 2) absentCase (allCase v ∷ paperCase v ∷ []) one-of-three)
     (oneOf flag absentCase (allCase v ∷ []) one-of-two)

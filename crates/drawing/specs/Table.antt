@@ -19,13 +19,23 @@ use Rattle.drawing.specs.Drawing.{Drawing, outer, Acceptable}
 abbrev pub wordsOf : {A : Type 0} → Layout A → A → List ℕ
 wordsOf L a = encode (spellFixed wordFields) L a
 
-abbrev pub leafKind : Leaf → ℕ
-leafKind (path p) = 2
-leafKind (text t) = 3
-leafKind (bitmap b) = 4
-
+-- the kinds of rows
 abbrev pub groupKind : ℕ
 groupKind = 1
+
+abbrev pub pathKind : ℕ
+pathKind = 2
+
+abbrev pub textKind : ℕ
+textKind = 3
+
+abbrev pub bitmapKind : ℕ
+bitmapKind = 4
+
+abbrev pub leafKind : Leaf → ℕ
+leafKind (path p) = pathKind
+leafKind (text t) = textKind
+leafKind (bitmap b) = bitmapKind
 
 -- A leaf's body: its fields after its id char.
 abbrev pub leafWords : ℕ → Leaf → String → List ℕ

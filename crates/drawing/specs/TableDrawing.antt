@@ -19,7 +19,7 @@ use Rattle.drawing.specs.Settings.{Settings, settings}
 use Rattle.drawing.specs.Object.{Object, leaf, group, Objects, ofList}
 use Rattle.drawing.specs.LeafLayout.{leafBody}
 use Rattle.drawing.specs.Drawing.{Drawing, fileOf}
-use Rattle.drawing.specs.Table.{groupKind, groupOwn, row, rowWidth, kindIn, startIn}
+use Rattle.drawing.specs.Table.{groupKind, pathKind, textKind, bitmapKind, groupOwn, row, rowWidth, kindIn, startIn}
 
 -- Where a walk stands: the next row's number and the contents from there on, the next word's and the bodies from there on.
 pub record Place : Type 0 where
@@ -73,12 +73,12 @@ walkGroup v each parent words p =
 
 -- The id char of the leaf with this kind in its row.
 abbrev pub letterOf : ℕ → ℕ
-letterOf kind = cond (eqb kind 2) (code "P") (cond (eqb kind 3) (code "T") (code "I"))
+letterOf kind = cond (eqb kind pathKind) (code "P") (cond (eqb kind textKind) (code "T") (code "I"))
 
 abbrev pub walkLeaf : ℕ → (parent : ℕ) (words : List ℕ) → Place → Walk Object
 walkLeaf v parent words p =
     let kind = kindIn words 0 in
-    provided (leb 2 kind && leb kind 4)
+    provided (leb pathKind kind && leb kind bitmapKind)
     (onward (body (leafBody v (letterOf kind)) kind parent words p) (λ (l, d) q. met (leaf l d) q))
 
 abbrev pub walkKind : (isGroup : Bool) → ℕ → (Place → Walk Object) → (parent : ℕ) (words : List ℕ) → Place → Walk Object

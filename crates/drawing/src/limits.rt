@@ -21,6 +21,11 @@ pub const DEPTH_LIMIT: u32 = 16;
 // the most markers in a chain of composite markers
 pub const MARKER_LIMIT: u32 = 4;
 
+// the fewest objects of a group, and segments of a path
+pub const LEAST_MEMBERS: u32 = 1;
+
+pub const LEAST_SEGMENTS: u32 = 1;
+
 // settings and paper; a paper of this size has its measures with it
 pub const LAST_TOOL: u64 = 7;
 

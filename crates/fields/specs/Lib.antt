@@ -1,9 +1,3 @@
--- Kinds of field in code: what they mean, and what reading one says.
+-- The laws of tests and of signed numbers that judging a field needs.
 pub mod Tests
-pub mod Letters
-pub mod Kinds
 pub mod SignedLaws
-pub mod Turn
-pub mod TurnLaws
-pub mod WordLaws
-pub mod KindLaws

@@ -1,12 +1,13 @@
 // What is wrong with a field's value.
 ghost use mathlib.Core.Path.{_≡_};
 ghost use Prim.Native.Nat.{_<_};
-ghost use Rattle.format.specs.Kind.{values};
 ghost use Rattle.drawing.specs.Fields as F;
-ghost use Rattle.fields.specs.Kinds.{kindOf};
-use crate::Kind;
 use crate::ranges::byte_within;
-use crate::ranges::word_reaches;
+use crate::ranges::reaches;
+use drawing::numbers::BAD_COUNT;
+use drawing::numbers::OUT_OF_RANGE;
+use drawing::numbers::TOO_DEEP;
+use format::decode::signed;
 
 pub fn unless(allowed: bool, number: u32) -> u32
     ensures { λ r. ⌜ r ≡ F.unless allowed number ⌝ }
@@ -17,23 +18,30 @@ pub fn unless(allowed: bool, number: u32) -> u32
     number
 }
 
-// the chars 1.0 to 1.4, each as one number
-pub fn version_fault(chars: u64) -> u32
-    ensures { λ r. ⌜ r ≡ F.versionChars .fault chars ⌝ }
+// A count or a length is decoded to an `i32`, so that a negative one is told from a large one.
+pub fn count_fault(least: u32, word: u32) -> u32
+    ensures { λ r. ⌜ r ≡ F.count least .fault word ⌝ }
 {
-    if chars < 0x31_002e_0030 {
-        return 4;
-    }
-    unless(chars <= 0x31_002e_0034, 4)
+    let number = signed(word);
+    unless(reaches(least, number), BAD_COUNT)
 }
 
-pub fn dash_fault(count: u32) -> u32
-    ensures { λ r. ⌜ r ≡ F.dashCount .fault count ⌝ }
+pub fn dash_fault(word: u32) -> u32
+    ensures { λ r. ⌜ r ≡ F.dashCount .fault word ⌝ }
 {
-    if word_reaches(0, count) {
-        return unless(count % 2 == 0, 8);
+    let number = signed(word);
+    if reaches(0, number) {
+        return unless(word % 2 == 0, BAD_COUNT);
     }
-    8
+    BAD_COUNT
+}
+
+// A font's size is decoded as a count is.
+pub fn size_fault(word: u32) -> u32
+    ensures { λ r. ⌜ r ≡ F.fontSize .fault word ⌝ }
+{
+    let number = signed(word);
+    unless(reaches(0, number), OUT_OF_RANGE)
 }
 
 pub fn marker_fault(high: u32, more: bool, id: u32) -> u32
@@ -44,21 +52,7 @@ pub fn marker_fault(high: u32, more: bool, id: u32) -> u32
         if more {
             return 0;
         }
-        return unless(id == 0, 10);
+        return unless(id == 0, TOO_DEEP);
     }
-    6
-}
-
-// The number of the fault that a value is in a field of this kind, 0 where it is allowed.
-pub fn fault(kind: Kind, value: u64) -> u32
-    requires { ⌜ value < values (kindOf kind .shape) ⌝ }
-    ensures { λ r. ⌜ r ≡ kindOf kind .fault value ⌝ }
-{
-    match kind {
-        // the chars JDR, as one number
-        Kind::Magic => unless(value == 0x4a_0044_0052, 3),
-        Kind::VersionLength => unless(value == 3, 4),
-        Kind::Version => version_fault(value),
-        Kind::OuterId => unless(value == 71, 7),
-    }
+    OUT_OF_RANGE
 }

@@ -22,9 +22,9 @@ module _ {B : Type 0} {tagOf : B → ℕ} where
   among fallback (x ∷ xs) c = x .on && eqb c (x .tag) || among fallback xs c
 
   -- The layout that the tag tells.
-  abbrev pub told : Alternative B tagOf → List (Alternative B tagOf) → ℕ → Layout B
-  told fallback [] c = fallback .layout
-  told fallback (x ∷ xs) c = either (x .on && eqb c (x .tag)) (x .layout) (told fallback xs c)
+  abbrev pub chosen : Alternative B tagOf → List (Alternative B tagOf) → ℕ → Layout B
+  chosen fallback [] c = fallback .layout
+  chosen fallback (x ∷ xs) c = either (x .on && eqb c (x .tag)) (x .layout) (chosen fallback xs c)
 
 -- The value of the flag that tells whether a part is there.
 abbrev pub flagFor : {A : Type 0} → ℕ → ℕ → Option A → ℕ

@@ -6,7 +6,7 @@ use Prim.Native.Nat.{ℕ}
 use mathlib.Core.List.{List, [], _∷_}
 use lib.Dec.{eqb}
 use borrow.Author.Tests.{eqb-true}
-use Rattle.format.specs.Alternative.{Alternative, among, told, flagFor}
+use Rattle.format.specs.Alternative.{Alternative, among, chosen, flagFor}
 use Rattle.format.specs.Format.{Made}
 
 and-right : (a b : Bool) → (a && b) ≡ true → b ≡ true
@@ -14,14 +14,14 @@ and-right true b e = e
 and-right false b e = let z : _≡_ {A = Bool} false true = e in cc
 
 module _ {B : Type 0} {tagOf : B → ℕ} where
-  pub told-tells : (first : Alternative B tagOf) (rest : List (Alternative B tagOf)) (c : ℕ) (b : B)
-      → among first rest c ≡ true → told first rest c .Good b → tagOf b ≡ c
-  told-tells first [] c b h g = first .tells b g ∙ sym (eqb-true c (first .tag) (and-right (first .on) (eqb c (first .tag)) h))
-  told-tells first (x ∷ xs) c b h g = by (x .on && eqb c (x .tag)) refl h g (λ h′ g′. told-tells first xs c b h′ g′)
+  pub chosen-tells : (first : Alternative B tagOf) (rest : List (Alternative B tagOf)) (c : ℕ) (b : B)
+      → among first rest c ≡ true → chosen first rest c .Good b → tagOf b ≡ c
+  chosen-tells first [] c b h g = first .tells b g ∙ sym (eqb-true c (first .tag) (and-right (first .on) (eqb c (first .tag)) h))
+  chosen-tells first (x ∷ xs) c b h g = by (x .on && eqb c (x .tag)) refl h g (λ h′ g′. chosen-tells first xs c b h′ g′)
     where
       by : (t : Bool) → (x .on && eqb c (x .tag)) ≡ t → (t || among first xs c) ≡ true
-          → cond t (x .layout .Good b) (told first xs c .Good b)
-          → (among first xs c ≡ true → told first xs c .Good b → tagOf b ≡ c) → tagOf b ≡ c
+          → cond t (x .layout .Good b) (chosen first xs c .Good b)
+          → (among first xs c ≡ true → chosen first xs c .Good b → tagOf b ≡ c) → tagOf b ≡ c
       by true e h g more = x .tells b g ∙ sym (eqb-true c (x .tag) (and-right (x .on) (eqb c (x .tag)) e))
       by false e h g more = more h g
 

@@ -7,8 +7,8 @@ use mathlib.Core.List.{List}
 use lib.Dec.{eqb}
 use Rattle.format.specs.Kind.{Kind, Allowed}
 use Rattle.format.specs.Layout.{Layout, field, nothing, either, case, implied}
-use Rattle.format.specs.Alternative.{Alternative, among, told, flagFor}
-use Rattle.format.specs.AlternativeLaws.{told-tells, flag-tells, case-tells}
+use Rattle.format.specs.Alternative.{Alternative, among, chosen, flagFor}
+use Rattle.format.specs.AlternativeLaws.{chosen-tells, flag-tells, case-tells}
 
 -- An alternative: a tag, whether it is on, its layout, and how a value of the case is made of it and taken apart.
 abbrev pub alternative : {A B : Type 0} {tagOf : B → ℕ} (tag : ℕ) (on : Bool) (f : Layout A) (make : A → B) (apart : B → Option A)
@@ -36,7 +36,7 @@ within {outer = outer} make apart same tags x =
 abbrev pub oneOf : {B : Type 0} {tagOf : B → ℕ} (k : Kind) (fallback : Alternative B tagOf) (rest : List (Alternative B tagOf))
     → ((c : ℕ) → Allowed k c → among fallback rest c ≡ true) → Layout B
 oneOf {tagOf = tagOf} k fallback rest listed =
-    implied (field k) (told fallback rest) tagOf (λ c b allowed good. told-tells fallback rest c b (listed c allowed) good)
+    implied (field k) (chosen fallback rest) tagOf (λ c b allowed good. chosen-tells fallback rest c b (listed c allowed) good)
 
 -- A flag of this kind, which allows two values, and a part where it has the first of them.
 abbrev pub optional : {A : Type 0} (k : Kind) (present absent : ℕ) → ((v : ℕ) → Allowed k v → eqb v present ≡ false → v ≡ absent) → Layout A → Layout (Option A)

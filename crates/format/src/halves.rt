@@ -17,7 +17,7 @@ pub fn low(value: u64) -> u32
     (value % 4294967296) as u32
 }
 
-pub fn joined(high: u32, low: u32) -> u64
+pub fn from_halves(high: u32, low: u32) -> u64
     ensures { λ r. ⌜ r ≡ number (2 ^ 32) (high ∷ low ∷ []) ⌝ }
 {
     (high as u64) * 4294967296 + (low as u64)

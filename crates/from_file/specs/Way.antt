@@ -1,7 +1,7 @@
 -- From a file's bytes to a table's words.
 use mathlib.Core.Path.{_≡_, refl}
 use mathlib.Core.Logic.{inl}
-use Prim.Native.Nat.{ℕ, _+_, _/_, _^_, _<_, _≤_}
+use Prim.Native.Nat.{_^_}
 use native.Mathlib.Omega.{arith}
 use mir.Syntax.{Width, w8}
 use Rattle.drawing.specs.Codecs.{byteFields, wordFields}

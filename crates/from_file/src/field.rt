@@ -7,32 +7,38 @@ use crate::prims::refusal;
 use crate::prims::step;
 use crate::prims::there;
 use drawing::numbers::BAD_COMPONENT;
-use drawing::numbers::BAD_COUNT;
 use drawing::numbers::BAD_FLAG;
 use drawing::numbers::CUT;
 use drawing::numbers::FLOW_FRAME;
 use drawing::numbers::OUT_OF_RANGE;
 use drawing::numbers::UNJOINED;
+use fields::fault::count_fault;
 use fields::fault::dash_fault;
 use fields::fault::marker_fault;
+use fields::fault::size_fault;
 use fields::fault::unless;
 use fields::floats::is_component;
 use fields::floats::is_hue;
-use fields::ranges::word_reaches;
+use ways::FieldPass;
 use ways::Pass;
 use ways::REFUSED;
-use ways::Took;
 ghost use mathlib.Core.Path.{_≡_};
 ghost use mathlib.Core.Bool.{true, cond};
 ghost use Prim.Native.Nat.{_^_, _<_, _≤_};
 ghost use lib.Dec.{ltb};
 ghost use Rattle.format.specs.LiteralLaws.{faultOf};
 ghost use Rattle.drawing.specs.Fields as F;
-ghost use Rattle.passes.specs.Sizes.{isField};
+ghost use Rattle.memory.specs.Sizes.{isField};
 ghost use Rattle.ways.specs.Steps.{Refused, Keeps, Small};
 ghost use Rattle.ways.specs.Faults.{Between};
+ghost use Rattle.ways.specs.FieldPassLaws.{shadeKind};
 ghost use Rattle.from_file.specs.Way.{way};
 ghost use Rattle.from_file.specs.Lays.{Begins, Asks, Ranges, Counts};
+
+// four bytes: the highest number, and the highest signed one
+const LAST_WORD: u64 = 0xffff_ffff;
+
+const LAST_INTEGER: u64 = 0x7fff_ffff;
 
 // A refusal, unless there was one before.
 pub fn refused(at: usize, to: usize, number: u32) -> Pass
@@ -45,30 +51,37 @@ pub fn refused(at: usize, to: usize, number: u32) -> Pass
 }
 
 // A value is put into the target, or refused with its fault.
-pub fn kept(dst: &mut [Kept], at: usize, to: usize, size: usize, value: u64, fault: u32) -> Took
+pub fn kept(
+    dst: &mut [Kept],
+    at: usize,
+    to: usize,
+    size: usize,
+    value: u64,
+    fault: u32,
+) -> FieldPass
     requires { ⌜ (isField size ≡ true) × (size ≤ 8) × Small way size 1 at to × (fault ≡ 0 → value < 256 ^ size) ⌝ }
-    ensures { λ r. ⌜ Keeps way size value fault (now (dst .entry)) (now (dst .exit)) at to r × (r .value ≤ value) ⌝ }
+    ensures { λ r. ⌜ Keeps way size value fault (now (dst .entry)) (now (dst .exit)) at to r × (r .value ≤ value) × (0 < fault → r .value ≡ 0) ⌝ }
 {
     if fault != 0 {
         let stopped = refused(at, to, fault);
-        return Took {
+        return FieldPass {
             value: 0,
             pass: stopped,
         };
     }
     put(dst, to, size, value);
     let behind = step(at, to, size, 1);
-    Took {
+    FieldPass {
         value: value,
         pass: behind,
     }
 }
 
-pub fn cut(at: usize, to: usize) -> Took
+pub fn cut(at: usize, to: usize) -> FieldPass
     ensures { λ r. ⌜ Refused way 2 at to (r .pass) × (r .value ≡ 0) ⌝ }
 {
     let stopped = refused(at, to, CUT);
-    Took {
+    FieldPass {
         value: 0,
         pass: stopped,
     }
@@ -97,7 +110,7 @@ fn ranged(
     low: u64,
     high: u64,
     fault: u32,
-) -> Took
+) -> FieldPass
     requires { ⌜ Begins (now src) at to ⌝ }
     requires { ⌜ (isField size ≡ true) × (size ≤ 8) × (high < 256 ^ size) × (0 < fault) ⌝ }
     ensures { λ r. ⌜ Ranges size low high fault (now (src .entry)) (now (dst .entry)) (now (dst .exit)) at to r ⌝ }
@@ -109,7 +122,7 @@ fn ranged(
     cut(at, to)
 }
 
-pub fn byte(src: &[Unit], dst: &mut [Kept], at: usize, to: usize, low: u64, high: u64) -> Took
+pub fn byte(src: &[Unit], dst: &mut [Kept], at: usize, to: usize, low: u64, high: u64) -> FieldPass
     requires { ⌜ Begins (now src) at to ⌝ }
     requires { ⌜ high < 128 ⌝ }
     ensures { λ r. ⌜ Asks (F.byteIn low high) (now (src .entry)) (now (dst .entry)) (now (dst .exit)) at to r ⌝ }
@@ -117,21 +130,21 @@ pub fn byte(src: &[Unit], dst: &mut [Kept], at: usize, to: usize, low: u64, high
     ranged(&*src, dst, at, to, 1, low, high, OUT_OF_RANGE)
 }
 
-pub fn flag(src: &[Unit], dst: &mut [Kept], at: usize, to: usize) -> Took
+pub fn flag(src: &[Unit], dst: &mut [Kept], at: usize, to: usize) -> FieldPass
     requires { ⌜ Begins (now src) at to ⌝ }
     ensures { λ r. ⌜ Asks F.flag (now (src .entry)) (now (dst .entry)) (now (dst .exit)) at to r ⌝ }
 {
     ranged(&*src, dst, at, to, 1, 0, 1, BAD_FLAG)
 }
 
-pub fn integer(src: &[Unit], dst: &mut [Kept], at: usize, to: usize) -> Took
+pub fn integer(src: &[Unit], dst: &mut [Kept], at: usize, to: usize) -> FieldPass
     requires { ⌜ Begins (now src) at to ⌝ }
     ensures { λ r. ⌜ Asks F.integer (now (src .entry)) (now (dst .entry)) (now (dst .exit)) at to r ⌝ }
 {
-    ranged(&*src, dst, at, to, 4, 0, 0xffff_ffff, OUT_OF_RANGE)
+    ranged(&*src, dst, at, to, 4, 0, LAST_WORD, OUT_OF_RANGE)
 }
 
-pub fn integer_to(src: &[Unit], dst: &mut [Kept], at: usize, to: usize, high: u64) -> Took
+pub fn integer_to(src: &[Unit], dst: &mut [Kept], at: usize, to: usize, high: u64) -> FieldPass
     requires { ⌜ Begins (now src) at to ⌝ }
     requires { ⌜ high < 2147483648 ⌝ }
     ensures { λ r. ⌜ Asks (F.integerIn 0 high) (now (src .entry)) (now (dst .entry)) (now (dst .exit)) at to r ⌝ }
@@ -139,91 +152,86 @@ pub fn integer_to(src: &[Unit], dst: &mut [Kept], at: usize, to: usize, high: u6
     ranged(&*src, dst, at, to, 4, 0, high, OUT_OF_RANGE)
 }
 
-pub fn float(src: &[Unit], dst: &mut [Kept], at: usize, to: usize) -> Took
+pub fn float(src: &[Unit], dst: &mut [Kept], at: usize, to: usize) -> FieldPass
     requires { ⌜ Begins (now src) at to ⌝ }
     ensures { λ r. ⌜ Asks F.float (now (src .entry)) (now (dst .entry)) (now (dst .exit)) at to r ⌝ }
 {
-    ranged(&*src, dst, at, to, 4, 0, 0xffff_ffff, OUT_OF_RANGE)
+    ranged(&*src, dst, at, to, 4, 0, LAST_WORD, OUT_OF_RANGE)
 }
 
-pub fn component(src: &[Unit], dst: &mut [Kept], at: usize, to: usize) -> Took
+fn shade_fault(bits: u64, hue: bool) -> u32
+    requires { ⌜ bits < 2 ^ 32 ⌝ }
+    ensures { λ r. ⌜ r ≡ shadeKind hue .fault bits ⌝ }
+{
+    if hue {
+        return unless(is_hue(bits), BAD_COMPONENT);
+    }
+    unless(is_component(bits), BAD_COMPONENT)
+}
+
+fn shade(src: &[Unit], dst: &mut [Kept], at: usize, to: usize, hue: bool) -> FieldPass
+    requires { ⌜ Begins (now src) at to ⌝ }
+    ensures { λ r. ⌜ Asks (shadeKind hue) (now (src .entry)) (now (dst .entry)) (now (dst .exit)) at to r ⌝ }
+{
+    if there(&*src, at, 4, 1) {
+        let bits = get(&*src, at, 4);
+        return kept(dst, at, to, 4, bits, shade_fault(bits, hue));
+    }
+    cut(at, to)
+}
+
+pub fn component(src: &[Unit], dst: &mut [Kept], at: usize, to: usize) -> FieldPass
     requires { ⌜ Begins (now src) at to ⌝ }
     ensures { λ r. ⌜ Asks F.component (now (src .entry)) (now (dst .entry)) (now (dst .exit)) at to r ⌝ }
 {
-    if there(&*src, at, 4, 1) {
-        let bits = get(&*src, at, 4);
-        return kept(
-            dst,
-            at,
-            to,
-            4,
-            bits,
-            unless(is_component(bits), BAD_COMPONENT),
-        );
-    }
-    cut(at, to)
+    shade(&*src, dst, at, to, false)
 }
 
-pub fn hue(src: &[Unit], dst: &mut [Kept], at: usize, to: usize) -> Took
+pub fn hue(src: &[Unit], dst: &mut [Kept], at: usize, to: usize) -> FieldPass
     requires { ⌜ Begins (now src) at to ⌝ }
     ensures { λ r. ⌜ Asks F.hue (now (src .entry)) (now (dst .entry)) (now (dst .exit)) at to r ⌝ }
 {
-    if there(&*src, at, 4, 1) {
-        let bits = get(&*src, at, 4);
-        return kept(dst, at, to, 4, bits, unless(is_hue(bits), BAD_COMPONENT));
-    }
-    cut(at, to)
+    shade(&*src, dst, at, to, true)
 }
 
 // A coordinate with the very bits of another.
-pub fn joined(src: &[Unit], dst: &mut [Kept], at: usize, to: usize, bits: u64) -> Took
+pub fn joined(src: &[Unit], dst: &mut [Kept], at: usize, to: usize, bits: u64) -> FieldPass
     requires { ⌜ Begins (now src) at to ⌝ }
     ensures { λ r. ⌜ Asks (F.joined bits) (now (src .entry)) (now (dst .entry)) (now (dst .exit)) at to r ⌝ }
 {
-    if there(&*src, at, 8, 2) {
-        let value = get(&*src, at, 8);
-        return kept(dst, at, to, 8, value, unless(value == bits, UNJOINED));
-    }
-    cut(at, to)
+    ranged(&*src, dst, at, to, 8, bits, bits, UNJOINED)
 }
 
-fn count_fault(least: u32, word: u32) -> u32
-    ensures { λ r. ⌜ r ≡ F.count least .fault word ⌝ }
-{
-    unless(word_reaches(least, word), BAD_COUNT)
-}
-
-// A count or a length is a signed number, and no less than the least.
-pub fn count(src: &[Unit], dst: &mut [Kept], at: usize, to: usize, least: u32) -> Took
+// A count or a length is a signed number, and no less than the least: it is refused before anything is counted by it.
+pub fn count(src: &[Unit], dst: &mut [Kept], at: usize, to: usize, least: u32) -> FieldPass
     requires { ⌜ Begins (now src) at to ⌝ }
     ensures { λ r. ⌜ Counts least (now (src .entry)) (now (dst .entry)) (now (dst .exit)) at to r ⌝ }
 {
     if there(&*src, at, 4, 1) {
-        let number = get(&*src, at, 4);
-        return kept(dst, at, to, 4, number, count_fault(least, number as u32));
+        let word = get(&*src, at, 4);
+        return kept(dst, at, to, 4, word, count_fault(least, word as u32));
     }
     cut(at, to)
 }
 
-pub fn dash_count(src: &[Unit], dst: &mut [Kept], at: usize, to: usize) -> Took
+pub fn dash_count(src: &[Unit], dst: &mut [Kept], at: usize, to: usize) -> FieldPass
     requires { ⌜ Begins (now src) at to ⌝ }
     ensures { λ r. ⌜ Asks F.dashCount (now (src .entry)) (now (dst .entry)) (now (dst .exit)) at to r × (r .value < 2 ^ 32) ⌝ }
 {
     if there(&*src, at, 4, 1) {
-        let number = get(&*src, at, 4);
-        return kept(dst, at, to, 4, number, dash_fault(number as u32));
+        let word = get(&*src, at, 4);
+        return kept(dst, at, to, 4, word, dash_fault(word as u32));
     }
     cut(at, to)
 }
 
-pub fn font_size(src: &[Unit], dst: &mut [Kept], at: usize, to: usize) -> Took
+pub fn font_size(src: &[Unit], dst: &mut [Kept], at: usize, to: usize) -> FieldPass
     requires { ⌜ Begins (now src) at to ⌝ }
     ensures { λ r. ⌜ Asks F.fontSize (now (src .entry)) (now (dst .entry)) (now (dst .exit)) at to r ⌝ }
 {
     if there(&*src, at, 4, 1) {
-        let size = get(&*src, at, 4);
-        let fault = unless(word_reaches(0, size as u32), OUT_OF_RANGE);
-        return kept(dst, at, to, 4, size, fault);
+        let word = get(&*src, at, 4);
+        return kept(dst, at, to, 4, word, size_fault(word as u32));
     }
     cut(at, to)
 }
@@ -241,7 +249,7 @@ fn flow_fault(flow: u64) -> u32
     BAD_FLAG
 }
 
-pub fn flow_flag(src: &[Unit], dst: &mut [Kept], at: usize, to: usize) -> Took
+pub fn flow_flag(src: &[Unit], dst: &mut [Kept], at: usize, to: usize) -> FieldPass
     requires { ⌜ Begins (now src) at to ⌝ }
     ensures { λ r. ⌜ Asks F.flowFlag (now (src .entry)) (now (dst .entry)) (now (dst .exit)) at to r ⌝ }
 {
@@ -270,7 +278,7 @@ pub fn marker_id(
     to: usize,
     high: u32,
     more: bool,
-) -> Took
+) -> FieldPass
     requires { ⌜ Begins (now src) at to ⌝ }
     ensures { λ r. ⌜ Asks (F.markerId high more) (now (src .entry)) (now (dst .entry)) (now (dst .exit)) at to r ⌝ }
 {

@@ -5,46 +5,69 @@ use crate::prims::Kept;
 use crate::prims::Unit;
 use crate::prims::get;
 use crate::prims::there;
+use drawing::letters::CLOSED;
+use drawing::letters::CURVE;
+use drawing::letters::LINE;
+use drawing::letters::MOVE;
+use drawing::letters::OPEN;
 use drawing::numbers::BAD_CHAR;
-use fields::letters::closed_fault;
-use fields::letters::segment_fault;
-use ways::Took;
+use ways::FieldPass;
 ghost use mathlib.Core.Path.{_≡_};
-ghost use mathlib.Core.Bool.{cond};
-ghost use lib.Dec.{ltb};
-ghost use Rattle.fields.specs.Letters.{closedLetter, segmentLetter};
+ghost use mathlib.Core.Bool.{true};
+ghost use Prim.Native.Nat.{_*_, _^_, _<_};
+ghost use Rattle.ways.specs.Segments.{straight, closedLetter, segmentLetter};
+ghost use Rattle.from_file.specs.Way.{way};
 ghost use Rattle.from_file.specs.Lays.{Begins, Asks};
+ghost use Rattle.drawing.specs.Fields.{unless};
+ghost use Rattle.ways.specs.FieldPassLaws.{OneOf, isOneOf};
 
-// A word of a table may be no char.
-fn char_fault(letter: u64, fault: u32) -> u32
-    ensures { λ r. ⌜ r ≡ cond (ltb letter 65536) fault 7 ⌝ }
+fn letter_fault(letter: u64, a: u64, b: u64, c: u64) -> u32
+    ensures { λ r. ⌜ r ≡ unless (isOneOf a b c letter) 7 ⌝ }
 {
-    if letter < 65536 {
-        return fault;
+    if letter == a {
+        return 0;
+    }
+    if letter == b {
+        return 0;
+    }
+    if letter == c {
+        return 0;
     }
     BAD_CHAR
 }
 
-pub fn closed_letter(src: &[Unit], dst: &mut [Kept], at: usize, to: usize) -> Took
+fn one_of(src: &[Unit], dst: &mut [Kept], at: usize, to: usize, a: u64, b: u64, c: u64) -> FieldPass
     requires { ⌜ Begins (now src) at to ⌝ }
-    ensures { λ r. ⌜ Asks closedLetter (now (src .entry)) (now (dst .entry)) (now (dst .exit)) at to r ⌝ }
+    requires { ⌜ (a < 256 ^ 2) × (b < 256 ^ 2) × (c < 256 ^ 2) ⌝ }
+    ensures { λ r. ⌜ OneOf way a b c (now (src .entry)) (now (dst .entry)) (now (dst .exit)) at to r ⌝ }
 {
     if there(&*src, at, 2, 1) {
         let letter = get(&*src, at, 2);
-        let fault = char_fault(letter, closed_fault(letter));
-        return kept(dst, at, to, 2, letter, fault);
+        return kept(dst, at, to, 2, letter, letter_fault(letter, a, b, c));
     }
     cut(at, to)
 }
 
-pub fn segment_letter(src: &[Unit], dst: &mut [Kept], at: usize, to: usize) -> Took
+pub fn closed_letter(src: &[Unit], dst: &mut [Kept], at: usize, to: usize) -> FieldPass
+    requires { ⌜ Begins (now src) at to ⌝ }
+    ensures { λ r. ⌜ Asks closedLetter (now (src .entry)) (now (dst .entry)) (now (dst .exit)) at to r ⌝ }
+{
+    one_of(&*src, dst, at, to, OPEN, CLOSED, CLOSED)
+}
+
+pub fn segment_letter(src: &[Unit], dst: &mut [Kept], at: usize, to: usize) -> FieldPass
     requires { ⌜ Begins (now src) at to ⌝ }
     ensures { λ r. ⌜ Asks segmentLetter (now (src .entry)) (now (dst .entry)) (now (dst .exit)) at to r ⌝ }
 {
-    if there(&*src, at, 2, 1) {
-        let letter = get(&*src, at, 2);
-        let fault = char_fault(letter, segment_fault(letter));
-        return kept(dst, at, to, 2, letter, fault);
+    one_of(&*src, dst, at, to, LINE, MOVE, CURVE)
+}
+
+// A line or a move has an end, a curve two control points before it.
+pub fn is_straight(letter: u64) -> bool
+    ensures { λ r. ⌜ r ≡ straight letter ⌝ }
+{
+    if letter == LINE {
+        return true;
     }
-    cut(at, to)
+    letter == MOVE
 }

@@ -2,3 +2,4 @@
 -- The way, and contracts over it.
 pub mod Way
 pub mod Lays
+pub mod Groups

@@ -11,10 +11,10 @@ use mir.Syntax.{Width, w32}
 use Rattle.format.specs.Digits.{Below}
 use Rattle.format.specs.LeafLaws.{field-below, field-one}
 use Rattle.drawing.specs.Codecs.{byteFields, wordFields}
-use Rattle.passes.specs.Sizes.{isRun}
-use Rattle.passes.specs.FitLaws.{each-run}
-use Rattle.passes.specs.Runs.{SmallWords}
-use Rattle.ways.specs.Way.{Units, Blind, Way, codec, wide, valueAt}
+use Rattle.memory.specs.Sizes.{isRun}
+use Rattle.memory.specs.SizeLaws.{each-run}
+use Rattle.memory.specs.Runs.{SmallWords}
+use Rattle.ways.specs.Way.{Units, Blind, Way, codec, sourceUnits, valueAt}
 use Rattle.ways.specs.Runs.{AllSmall}
 
 abbrev words : Units
@@ -71,7 +71,7 @@ to-file = refl
 -- ---- which words are values
 
 -- A char is a word.
-pub char-at : (us : List ℕ) (at count i : ℕ) → at + count * wide way 2 ≤ length us → i < count → valueAt way 2 us (at + i * wide way 2) ≡ getD us (at + i) 0
+pub char-at : (us : List ℕ) (at count i : ℕ) → at + count * sourceUnits way 2 ≤ length us → i < count → valueAt way 2 us (at + i * sourceUnits way 2) ≡ getD us (at + i) 0
 char-at us at count i inside less =
     let one : at + i * 1 ≡ at + i = omega arith in
     rw (one, field-one (2 ^ 32) us (at + i) (omega arith))
@@ -80,24 +80,24 @@ char-at us at count i inside less =
 words-hold : (size : ℕ) → isRun size ≡ true → (size ≡ 2 → ⊥) → (2 ^ 32) ^ ((size + 3) / 4) ≡ 256 ^ size
 words-hold size run long = each-run (λ n. (n ≡ 2 → ⊥) → (2 ^ 32) ^ ((n + 3) / 4) ≡ 256 ^ n) size run (λ h. absurd (h refl)) (λ h. refl) (λ h. refl) long
 
-pub words-small : (size : ℕ) (us : List ℕ) (at count : ℕ) → isRun size ≡ true → (size ≡ 2 → ⊥) → Below (2 ^ 32) us → at + count * wide way size ≤ length us → AllSmall way size us at count
+pub words-small : (size : ℕ) (us : List ℕ) (at count : ℕ) → isRun size ≡ true → (size ≡ 2 → ⊥) → Below (2 ^ 32) us → at + count * sourceUnits way size ≤ length us → AllSmall way size us at count
 words-small size us at count run long below inside i less =
-    let w = wide way size in
+    let w = sourceUnits way size in
     let more : suc i * w ≤ count * w = Nat.mul-le-mul-right w less in
     rw (← words-hold size run long) (field-below (2 ^ 32) us (at + i * w) w (omega arith) below)
 
-pub chars-small : (size : ℕ) (us : List ℕ) (at count : ℕ) → at + count * wide way size ≤ length us → AllSmall way size us at count → SmallWords size us at count
+pub chars-small : (size : ℕ) (us : List ℕ) (at count : ℕ) → at + count * sourceUnits way size ≤ length us → AllSmall way size us at count → SmallWords size us at count
 chars-small size us at count inside all two i less =
-    let there : at + count * wide way 2 ≤ length us = rw two at inside in
-    let small : valueAt way 2 us (at + i * wide way 2) < 256 ^ 2 = rw two at (all i less) in
+    let there : at + count * sourceUnits way 2 ≤ length us = rw two at inside in
+    let small : valueAt way 2 us (at + i * sourceUnits way 2) < 256 ^ 2 = rw two at (all i less) in
     rw (← char-at us at count i there less) small
 
-module _ (size : ℕ) (us : List ℕ) (at count : ℕ) (two : size ≡ 2) (inside : at + count * wide way size ≤ length us) where
-  pub chars-there : at + count * wide way 2 ≤ length us
+module _ (size : ℕ) (us : List ℕ) (at count : ℕ) (two : size ≡ 2) (inside : at + count * sourceUnits way size ≤ length us) where
+  pub chars-there : at + count * sourceUnits way 2 ≤ length us
   chars-there = rw two at inside
 
   pub small-chars : ((i : ℕ) → i < count → getD us (at + i) 0 < 65536) → AllSmall way size us at count
   small-chars small i less = rw (two, char-at us at count i chars-there less) (small i less)
 
-  pub large-char : (i : ℕ) × (i < count) × (65536 ≤ getD us (at + i) 0) → (i : ℕ) × (i < count) × (256 ^ size ≤ valueAt way size us (at + i * wide way size))
+  pub large-char : (i : ℕ) × (i < count) × (65536 ≤ getD us (at + i) 0) → (i : ℕ) × (i < count) × (256 ^ size ≤ valueAt way size us (at + i * sourceUnits way size))
   large-char (i, less, large) = (i, less, rw (two, char-at us at count i chars-there less) large)

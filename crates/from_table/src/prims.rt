@@ -1,9 +1,10 @@
 // The primitives of the way from a table's words to a file's bytes.
 use drawing::numbers::NO_TABLE;
-use fields::words::word_value_at;
-use passes::runs::all_chars;
-use passes::runs::write_run;
-use passes::target::write_value;
+use format::halves::from_halves;
+use memory::write::all_chars;
+use memory::write::write_chars;
+use memory::write::write_run;
+use memory::write::write_value;
 use ways::Pass;
 use ways::REFUSED;
 ghost use mathlib.Core.Path.{_≡_};
@@ -13,9 +14,9 @@ ghost use lib.ListN.{length};
 ghost use Rattle.format.specs.Digits.{digits};
 ghost use Rattle.format.specs.Pass.{put};
 ghost use Rattle.drawing.specs.Limits.{lengthLimit};
-ghost use Rattle.passes.specs.Sizes.{isField, isRun};
-ghost use Rattle.ways.specs.Way.{wide, far, valueAt};
-ghost use Rattle.ways.specs.Passes.{refusalOf, stepped};
+ghost use Rattle.memory.specs.Sizes.{isField, isRun};
+ghost use Rattle.ways.specs.Way.{sourceUnits, targetUnits, valueAt};
+ghost use Rattle.ways.specs.Passes.{refusalOf, stepped, aheadOf};
 ghost use Rattle.ways.specs.Steps.{Fits, Small};
 ghost use Rattle.ways.specs.Runs.{AllSmall, HasWide, copied};
 ghost use Rattle.from_table.specs.Way.{way};
@@ -33,25 +34,36 @@ pub fn there(src: &[Unit], at: usize, bytes: usize, words: usize) -> bool
 }
 
 pub fn get(src: &[Unit], at: usize, size: usize) -> u64
-    requires { ⌜ (isField size ≡ true) × (at + wide way size ≤ length (now src)) ⌝ }
-    ensures { λ r. ⌜ (r ≡ valueAt way size (now (src .entry)) at) × (r < way .source .base ^ wide way size) ⌝ }
+    requires { ⌜ (isField size ≡ true) × (at + sourceUnits way size ≤ length (now src)) ⌝ }
+    ensures { λ r. ⌜ (r ≡ valueAt way size (now (src .entry)) at) × (r < way .source .base ^ sourceUnits way size) ⌝ }
 {
-    word_value_at(&*src, at, size)
+    if size <= 4 {
+        return src[at] as u64;
+    }
+    from_halves(src[at], src[at + 1])
 }
 
 pub fn put(dst: &mut [Kept], to: usize, size: usize, value: u64)
     requires { ⌜ (to < 2 ^ 60) × (isField size ≡ true) × (value < 256 ^ size) ⌝ }
-    ensures { λ r. ⌜ now (dst .exit) ≡ put to (digits (way .target .base) (far way size) value) (now (dst .entry)) ⌝ }
+    ensures { λ r. ⌜ now (dst .exit) ≡ put to (digits (way .target .base) (targetUnits way size) value) (now (dst .entry)) ⌝ }
 {
     write_value(dst, to, size, value);
 }
 
 // The source's units of a field.
-pub fn wide(size: usize) -> usize
+pub fn source_units(size: usize) -> usize
     requires { ⌜ size ≤ 8 ⌝ }
-    ensures { λ r. ⌜ r ≡ wide way size ⌝ }
+    ensures { λ r. ⌜ r ≡ sourceUnits way size ⌝ }
 {
     (size + 3) / 4
+}
+
+// The target's units of a field.
+pub fn target_units(size: usize) -> usize
+    requires { ⌜ size ≤ 8 ⌝ }
+    ensures { λ r. ⌜ r ≡ targetUnits way size ⌝ }
+{
+    size
 }
 
 // Behind so many fields of a size.
@@ -78,15 +90,27 @@ pub fn refusal(number: u32, at: usize) -> Pass
 
 // So many fields, which are there, put one behind the other where they fit.
 pub fn copy(src: &[Unit], dst: &mut [Kept], at: usize, to: usize, size: usize, count: usize)
-    requires { ⌜ (isRun size ≡ true) × (at + count * wide way size ≤ length (now src)) × AllSmall way size (now src) at count ⌝ }
+    requires { ⌜ (isRun size ≡ true) × (at + count * sourceUnits way size ≤ length (now src)) × AllSmall way size (now src) at count ⌝ }
     ensures { λ r. ⌜ now (dst .exit) ≡ copied way size count (now (src .entry)) at to (now (dst .entry)) ⌝ }
 {
-    write_run(&*src, at, dst, to, size, count);
+    if 0 < dst.len() {
+        write_run(&*src, at, dst, to, size, count);
+    }
+}
+
+// The same for chars.
+pub fn copy_chars(src: &[Unit], dst: &mut [Kept], at: usize, to: usize, count: usize)
+    requires { ⌜ (at + count * sourceUnits way 2 ≤ length (now src)) × AllSmall way 2 (now src) at count ⌝ }
+    ensures { λ r. ⌜ now (dst .exit) ≡ copied way 2 count (now (src .entry)) at to (now (dst .entry)) ⌝ }
+{
+    if 0 < dst.len() {
+        write_chars(&*src, at, dst, to, count);
+    }
 }
 
 // A unit that is no value of a field in a run: a word that is no char.
 pub fn has_wide(src: &[Unit], at: usize, size: usize, count: usize) -> bool
-    requires { ⌜ (isRun size ≡ true) × (at + count * wide way size ≤ length (now src)) × (length (now src) ≤ lengthLimit) ⌝ }
+    requires { ⌜ (isRun size ≡ true) × (at + count * sourceUnits way size ≤ length (now src)) × (length (now src) ≤ lengthLimit) ⌝ }
     ensures { λ r. ⌜ HasWide way size (now (src .entry)) at count r ⌝ }
 {
     if size == 2 {
@@ -104,4 +128,15 @@ pub fn past(at: usize, bytes: usize, words: usize) -> usize
     ensures { λ r. ⌜ r ≡ at + way .source .pick bytes words ⌝ }
 {
     at + words
+}
+
+// Behind fields of so many bytes in a file and words in a table.
+pub fn ahead(at: usize, to: usize, bytes: usize, words: usize) -> Pass
+    requires { ⌜ (at + way .source .pick bytes words < 2 ^ 60) × (to + way .target .pick bytes words < 2 ^ 60) ⌝ }
+    ensures { λ r. ⌜ r ≡ aheadOf way bytes words at to ⌝ }
+{
+    Pass {
+        at: at + words,
+        to: to + bytes,
+    }
 }

@@ -3,19 +3,20 @@
 use crate::prims::Kept;
 use crate::prims::Unit;
 use crate::prims::copy;
+use crate::prims::copy_chars;
 use crate::prims::has_wide;
 use crate::prims::refusal;
+use crate::prims::source_units;
 use crate::prims::step;
 use crate::prims::there;
-use crate::prims::wide;
 use drawing::numbers::CUT;
 use ways::Pass;
 use ways::REFUSED;
 ghost use mathlib.Core.Path.{_≡_};
 ghost use mathlib.Core.Bool.{true};
-ghost use Prim.Native.Nat.{_^_, _<_};
+ghost use Prim.Native.Nat.{_^_, _<_, _≤_};
 ghost use Rattle.drawing.specs.String as S;
-ghost use Rattle.passes.specs.Sizes.{isRun};
+ghost use Rattle.memory.specs.Sizes.{isRun};
 ghost use Rattle.ways.specs.Steps.{CutRun};
 ghost use Rattle.ways.specs.Runs.{Runs};
 ghost use Rattle.from_table.specs.Way.{way};
@@ -30,13 +31,13 @@ fn cut_run(src: &[Unit], at: usize, to: usize, size: usize) -> Pass
     if REFUSED <= at {
         return Pass { at: at, to: to };
     }
-    let units = wide(size);
+    let units = source_units(size);
     refusal(CUT, at + (src.len() - at) / units * units)
 }
 
 pub fn run(src: &[Unit], dst: &mut [Kept], at: usize, to: usize, size: usize, count: u64) -> Pass
     requires { ⌜ Begins (now src) at to ⌝ }
-    requires { ⌜ (isRun size ≡ true) × (count < 2 ^ 32) ⌝ }
+    requires { ⌜ (isRun size ≡ true) × (count ≤ 2 ^ 32) ⌝ }
     ensures { λ r. ⌜ Runs way size count (now (src .entry)) (now (dst .entry)) (now (dst .exit)) at to r ⌝ }
 {
     let n = count as usize;
@@ -56,5 +57,13 @@ pub fn chars(src: &[Unit], dst: &mut [Kept], at: usize, to: usize, count: u64) -
     requires { ⌜ count < 2 ^ 32 ⌝ }
     ensures { λ r. ⌜ Lays (S.chars count) (now (src .entry)) (now (dst .entry)) (now (dst .exit)) at to r ⌝ }
 {
-    run(&*src, dst, at, to, 2, count)
+    let n = count as usize;
+    if there(&*src, at, n * 2, n) {
+        if has_wide(&*src, at, 2, n) {
+            return refusal(CUT, at);
+        }
+        copy_chars(&*src, dst, at, to, n);
+        return step(at, to, 2, n);
+    }
+    cut_run(&*src, at, to, 2)
 }

@@ -10,7 +10,7 @@ use lib.ListN.{length, getD, drop, getElem?, length-append, drop-of-length-le}
 use lib.Dec.{ltb}
 use borrow.Author.Tests.{ltb-true, ltb-false}
 use lib.Seq.{drop-append-seam, drop-cons, getD-drop}
-use Rattle.format.specs.Alternative.{told}
+use Rattle.format.specs.Alternative.{chosen}
 use Rattle.drawing.specs.Limits.{depthLimit}
 use Rattle.drawing.specs.String.{String}
 use Rattle.drawing.specs.Object.{Leaf, Object, leaf, group, Objects, none, more, listOf}
@@ -161,5 +161,5 @@ module _ (c bs : List ℕ) (v r : ℕ) where
   pub body-here : (l : Leaf) (d : String) → RowBody c bs v r (leaf l d) → Here (leafBody v (leafLetter l)) bs (startIn c r) (l, d)
   body-here l d row = record { good = row .good; rest = row .rest; stands = record { within = omega (arith, row .inside); words-are = row .words-are } }
 
-  pub leaf-here : (l : Leaf) (d : String) → RowBody c bs v r (leaf l d) → Here (told (pathCase v) (otherCases v) (leafLetter l)) bs (startIn c r) l
-  leaf-here l d row = here-first (told (pathCase v) (otherCases v) (leafLetter l)) (objectEnd v) (body-here l d row)
+  pub leaf-here : (l : Leaf) (d : String) → RowBody c bs v r (leaf l d) → Here (chosen (pathCase v) (otherCases v) (leafLetter l)) bs (startIn c r) l
+  leaf-here l d row = here-first (chosen (pathCase v) (otherCases v) (leafLetter l)) (objectEnd v) (body-here l d row)

@@ -8,7 +8,7 @@ use lib.Dec.{eqb, leb}
 use native.Mathlib.Nat as Nat
 use native.Mathlib.Omega.{arith}
 use borrow.Author.Tests.{eqb-true, leb-true}
-use Rattle.format.specs.AlternativeLaws.{told-tells}
+use Rattle.format.specs.AlternativeLaws.{chosen-tells}
 use Rattle.format.specs.Digits.{Below}
 use Rattle.format.specs.Kind.{Allowed}
 use Rattle.format.specs.Format.{Each}
@@ -132,7 +132,7 @@ letter-kind (suc (suc (suc (suc (suc n))))) h g l e = absurd (omega arith)
 leaf-of : (v deep parent k : ℕ) (words : List ℕ) (p q r : Place) (t : Leaf × String) → 2 ≤ k → k ≤ 4 → RowMet p words q
     → BodyMet (leafBody v (letterOf k)) k parent words q t r → ObjectMet v deep parent p (leaf (t .0) (t .1)) r
 leaf-of v deep parent k words p q r t low high h w =
-    let tells : leafLetter (t .0) ≡ letterOf k = told-tells (pathCase v) (otherCases v) (letterOf k) (t .0) (kind-letter k low high v) (w .good .0) in
+    let tells : leafLetter (t .0) ≡ letterOf k = chosen-tells (pathCase v) (otherCases v) (letterOf k) (t .0) (kind-letter k low high v) (w .good .0) in
     let kind-is : k ≡ leafKind (t .0) = letter-kind k low high (t .0) tells in
     record {
       good = leaf-good v deep (t .0) (t .1) (subst (λ c. leafBody v c .Good t) (sym tells) (w .good));

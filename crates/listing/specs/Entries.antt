@@ -9,7 +9,7 @@ use Rattle.drawing.specs.Object.{Object}
 use Rattle.drawing.specs.Drawing.{Drawing}
 use Rattle.drawing.specs.Table.{IsTable}
 use Rattle.drawing.specs.Order.{objectsOf, descriptionOf, entriesFrom, entries}
-use Rattle.table.specs.Walks.{Writes}
+use Rattle.ways.specs.Written.{Writes}
 use Rattle.laws.specs.RowBodies.{RowBody}
 use Rattle.places.specs.Rows.{TableHere}
 

@@ -15,7 +15,7 @@ use Rattle.drawing.specs.Table.{IsTable}
 use Rattle.drawing.specs.Order.{objectsOf, descriptionOf, entriesFrom, entries}
 use Rattle.drawing.specs.Answers.{rowsOf}
 use Rattle.laws.specs.TableLaws.{table-unique}
-use Rattle.table.specs.WriteLaws.{nothing-written, put-written, both-written, same-written}
+use Rattle.ways.specs.Written.{nothing-written, put-written, both-written, same-written}
 use Rattle.laws.specs.RowBodyLaws.{drop-objects, no-objects}
 use Rattle.places.specs.Rows.{TableHere}
 use Rattle.places.specs.RowLaws.{object-here}

@@ -7,22 +7,22 @@ ghost use Rattle.format.specs.Pass.{put};
 ghost use Rattle.places.specs.Rows.{TableHere};
 ghost use Rattle.listing.specs.Entries.{Entered, Enters};
 
-fn store_entry(list: &mut [u32], place: usize, row: usize)
+fn store_entry(room: &mut [u32], place: usize, row: usize)
     requires { ⌜ row < 2 ^ 32 ⌝ }
-    ensures { λ r. ⌜ now (list .exit) ≡ put place (row ∷ []) (now (list .entry)) ⌝ }
+    ensures { λ r. ⌜ now (room .exit) ≡ put place (row ∷ []) (now (room .entry)) ⌝ }
 {
-    if place < list.len() {
-        list[place] = row as u32;
+    if place < room.len() {
+        room[place] = row as u32;
     }
 }
 
 // One row more, if it has the label.
-fn enter(list: &mut [u32], count: usize, row: usize, labelled: bool) -> usize
+fn enter(room: &mut [u32], count: usize, row: usize, labelled: bool) -> usize
     requires { ⌜ (row < 2 ^ 32) × (count < 2 ^ 40) ⌝ }
-    ensures { λ r. ⌜ Entered labelled count row (now (list .entry)) (now (list .exit)) r ⌝ }
+    ensures { λ r. ⌜ Entered labelled count row (now (room .entry)) (now (room .exit)) r ⌝ }
 {
     if labelled {
-        store_entry(list, count, row);
+        store_entry(room, count, row);
         return count + 1;
     }
     count
@@ -32,18 +32,18 @@ pub fn entries(
     contents: &[u32],
     words: &[u32],
     label: &[u16],
-    list: &mut [u32],
+    room: &mut [u32],
     rows: usize,
     version: u32,
 ) -> usize
     requires { ⌜ TableHere (now contents) (now words) rows version ⌝ }
-    ensures { λ r. ⌜ Enters (now (contents .entry)) (now (words .entry)) (now (label .entry)) (now (list .entry)) (now (list .exit)) r ⌝ }
+    ensures { λ r. ⌜ Enters (now (contents .entry)) (now (words .entry)) (now (label .entry)) (now (room .entry)) (now (room .exit)) r ⌝ }
 {
     let mut row = 0;
     let mut count = 0;
     while row < rows {
-        let labelled = is_labelled(contents, words, row, version, label);
-        count = enter(list, count, row, labelled);
+        let labelled = is_labelled(&*contents, &*words, row, version, &*label);
+        count = enter(room, count, row, labelled);
         row = row + 1;
     }
     count

@@ -1,7 +1,10 @@
 // Whether a row's object has a label for its description.
+use drawing::limits::V1_2;
 use places::Part;
 use places::behind::behind;
 use places::end::end_of;
+use rows::look::size_in;
+use rows::look::start_in;
 ghost use mathlib.Core.Path.{_≡_};
 ghost use Prim.Native.Nat.{_+_, _≤_};
 ghost use lib.ListN.{length, take, drop};
@@ -30,11 +33,11 @@ pub fn is_labelled(contents: &[u32], words: &[u32], row: usize, version: u32, la
     ensures { λ r. ⌜ Labels (now (contents .entry)) (now (words .entry)) version row (now (label .entry)) r ⌝ }
 {
     let chars = label.len();
-    if version < 2 {
+    if version < V1_2 {
         return chars == 0;
     }
-    let start = contents[4 * row + 2] as usize;
-    let size = contents[4 * row + 3] as usize;
+    let start = start_in(&*contents, row);
+    let size = size_in(&*contents, row);
     if size <= chars {
         return false;
     }
@@ -42,9 +45,9 @@ pub fn is_labelled(contents: &[u32], words: &[u32], row: usize, version: u32, la
     if words[from - 1] as usize != chars {
         return false;
     }
-    if same_chars(words, from, label) {
-        let end = end_of(contents, words, row, version);
-        let description = behind(words, end, version, Part::FlowFlag);
+    if same_chars(&*words, from, &*label) {
+        let end = end_of(&*contents, &*words, row, version);
+        let description = behind(&*words, end, version, Part::FlowFlag);
         return description + 1 == from;
     }
     false

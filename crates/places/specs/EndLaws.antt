@@ -1,11 +1,11 @@
 -- Where a leaf's fields stand, and an object's end: behind a group's count, or behind a leaf's other fields.
-use mathlib.Core.Path.{_≡_, refl, sym, ap, subst, _∙_}
+use mathlib.Core.Path.{_≡_, refl, sym, ap, subst, subst₂, _∙_}
 use Prim.Native.Nat.{ℕ, _+_, _≤_}
 use native.Mathlib.Omega.{arith}
 use mathlib.Core.List.{List, _++_}
 use lib.ListN.{length, length-append}
 use Rattle.format.specs.Layout.{field, _&_}
-use Rattle.format.specs.Alternative.{told}
+use Rattle.format.specs.Alternative.{chosen}
 use Rattle.drawing.specs.Fields.{flowFlag, memberCount}
 use Rattle.drawing.specs.String.{String, string}
 use Rattle.drawing.specs.Object.{Leaf, path, text, bitmap, Object, leaf, group, Objects, listOf}
@@ -33,11 +33,11 @@ leaf-no-group (bitmap x) e = omega arith
 
 -- An object's own words before its end.
 abbrev pub frontWords : ℕ → Object → List ℕ
-frontWords v (leaf l d) = wordsOf (told (pathCase v) (otherCases v) (leafLetter l)) l
+frontWords v (leaf l d) = wordsOf (chosen (pathCase v) (otherCases v) (leafLetter l)) l
 frontWords v (group os d) = wordsOf (field memberCount) (length (listOf os))
 
 pub front-words : (v : ℕ) (o : Object) → ownWords v o ≡ frontWords v o ++ wordsOf (objectEnd v) (descriptionOf o)
-front-words v (leaf l d) = pair-words (told (pathCase v) (otherCases v) (leafLetter l)) (objectEnd v) l d
+front-words v (leaf l d) = pair-words (chosen (pathCase v) (otherCases v) (leafLetter l)) (objectEnd v) l d
 front-words v (group os d) = pair-words (field memberCount) (objectEnd v) (length (listOf os)) d
 
 module _ (c bs : List ℕ) (v r : ℕ) where
@@ -54,18 +54,20 @@ module _ (c bs : List ℕ) (v r : ℕ) where
   ends (group os d) row =
       record { here = here-behind (own-here os d row) (frontWords v (group os d)) (objectEnd v) (front-words v (group os d)) (row .good .1); later = omega arith; end-is = end-is (group os d) }
 
-  pub group-end : (o : Object) → RowBody c bs v r o → kindIn c r ≡ 1 → {q : ℕ} → Behind (field memberCount) bs (startIn c r) q → EndsAt c bs v r o q
-  group-end (leaf l d) row is behind = absurd (leaf-no-group l (sym (row .kind-is) ∙ is))
-  group-end (group os d) row is behind =
-      subst (EndsAt c bs v r (group os d)) (sym (behind (length (listOf os)) (here-first (field memberCount) (objectEnd v) (own-here os d row)))) (ends (group os d) row)
+  -- Where the kind and the start are those of the row.
+  module _ {kind start q : ℕ} (kind-is : kind ≡ kindIn c r) (start-is : start ≡ startIn c r) where
+    pub group-end : (o : Object) → RowBody c bs v r o → kind ≡ 1 → Behind (field memberCount) bs start q → EndsAt c bs v r o q
+    group-end (leaf l d) row is behind = absurd (leaf-no-group l (sym (row .kind-is) ∙ sym kind-is ∙ is))
+    group-end (group os d) row is behind =
+        let from : Behind (field memberCount) bs (startIn c r) q = subst (λ at. Behind (field memberCount) bs at q) start-is behind in
+        subst (EndsAt c bs v r (group os d)) (sym (from (length (listOf os)) (here-first (field memberCount) (objectEnd v) (own-here os d row)))) (ends (group os d) row)
 
-  pub leaf-end : (o : Object) → RowBody c bs v r o → (kindIn c r ≡ 1 → ⊥) → {letter q : ℕ} → letter ≡ letterOf (kindIn c r)
-      → Behind (told (pathCase v) (otherCases v) letter) bs (startIn c r) q → EndsAt c bs v r o q
-  leaf-end (group os d) row other letter-is behind = absurd (other (row .kind-is))
-  leaf-end (leaf l d) row other {letter} {q} letter-is behind =
-      let same : letter ≡ leafLetter l = letter-is ∙ ap letterOf (row .kind-is) ∙ letter-of-leaf l in
-      let is = subst (λ x. Behind (told (pathCase v) (otherCases v) x) bs (startIn c r) q) same behind in
-      subst (EndsAt c bs v r (leaf l d)) (sym (is l (leaf-here c bs v r l d row))) (ends (leaf l d) row)
+    pub leaf-end : (o : Object) → RowBody c bs v r o → (kind ≡ 1 → ⊥) → {letter : ℕ} → letter ≡ letterOf kind → Behind (chosen (pathCase v) (otherCases v) letter) bs start q → EndsAt c bs v r o q
+    leaf-end (group os d) row other letter-is behind = absurd (other (kind-is ∙ row .kind-is))
+    leaf-end (leaf l d) row other {letter} letter-is behind =
+        let same : letter ≡ leafLetter l = letter-is ∙ ap letterOf (kind-is ∙ row .kind-is) ∙ letter-of-leaf l in
+        let is = subst₂ (λ x at. Behind (chosen (pathCase v) (otherCases v) x) bs at q) same start-is behind in
+        subst (EndsAt c bs v r (leaf l d)) (sym (is l (leaf-here c bs v r l d row))) (ends (leaf l d) row)
 
   -- Its description stands behind the flow frame flag.
   module _ (late : 2 ≤ v) (o : Object) {end : ℕ} (e : EndsAt c bs v r o end) where

@@ -1,7 +1,6 @@
 -- What a pass over a part of a body comes to.
 use mathlib.Core.Path.{_≡_, sym, ap, subst, _∙_}
-use mathlib.Core.Bool.{Bool, true}
-use Prim.Native.Nat.{ℕ, _+_, _-_, _^_}
+use Prim.Native.Nat.{ℕ, _+_, _-_, _^_, _<_, _≤_}
 use native.Mathlib.Omega.{arith}
 use mathlib.Core.List.{List}
 use lib.ListN.{length, drop, length-append, length-drop}
@@ -14,25 +13,30 @@ use Rattle.drawing.specs.Reading as Reading
 use Rattle.drawing.specs.Codecs.{wordFields}
 use Rattle.drawing.specs.Table.{wordsOf}
 use Rattle.laws.specs.CodecLaws.{words-sensible, words-literal}
-use Rattle.passes.specs.declared.Pass.{Pass}
-use Rattle.passes.specs.Carries.{Laid}
-use Rattle.passes.specs.Landings.{Landed, Lands, lands}
+use Rattle.laws.specs.Standing.{Here}
+use Rattle.ways.specs.Passes.{refused}
+use Rattle.ways.specs.Carries.{Laid}
+use Rattle.ways.specs.LandLaws.{Landed, Lands, lands}
+use Rattle.from_table.specs.Way.{way}
 use Rattle.places.specs.declared.Part.{Part}
 use Rattle.places.specs.Places.{Passed}
-use Rattle.laws.specs.Standing.{Here}
 use Rattle.places.specs.Parts.{layoutOf}
 
-pub this-part : {part part′ : Part} (v : ℕ) {t : Bool} {us m m′ : List ℕ} {p r : Pass} → part ≡ part′
-    → Laid (layoutOf part′ v .format) t us m m′ p r → Laid (layoutOf part v .format) t us m m′ p r
-this-part v {t} {us} {m} {m′} {p} {r} same laid = subst (λ x. Laid (layoutOf x v .format) t us m m′ p r) (sym same) laid
+pub this-part : {part part′ : Part} (v : ℕ) {us m m′ : List ℕ} {at to at′ to′ : ℕ} → part ≡ part′
+    → Laid (layoutOf part′ v .format) way us m m′ at to at′ to′ → Laid (layoutOf part v .format) way us m m′ at to at′ to′
+this-part v {us} {m} {m′} {at} {to} {at′} {to′} same laid = subst (λ x. Laid (layoutOf x v .format) way us m m′ at to at′ to′) (sym same) laid
 
--- Whatever the layout, a pass over the words from a place where a good value stands ends right behind it.
-pub passed : {A : Type 0} (L : Layout A) {ws m m′ : List ℕ} {p r : Pass} → Below (2 ^ 32) ws → p .number ≡ 0 → Laid (L .format) true ws m m′ p r → Passed L ws (p .at) (r .at)
-passed {A} L {ws} {m} {m′} {p} {r} below going laid = record { is = is; inside = laid .carried .ready .inside }
-  where
-    is : (a : A) → Here L ws (p .at) a → r .at ≡ p .at + length (wordsOf L a)
-    is a here =
-        let parsed : parse Reading.words L (drop (p .at) ws) ≡ found a (here .rest) = ap (parse Reading.words L) (here .stands .words-are) ∙ parse-encoded wordFields words-sensible words-literal L a (here .good) (here .rest) in
-        let landed : Landed L true ws m m′ p r a (here .rest) = subst (Lands L true ws m m′ p r) parsed (lands L true below going (here .stands .within) laid) in
-        let long : length ws - p .at ≡ length (wordsOf L a) + length (here .rest) = sym (length-drop (p .at) ws) ∙ ap length (here .stands .words-are) ∙ length-append (wordsOf L a) (here .rest) in
-        omega (arith, landed .at-is, here .stands .within)
+module _ {A : Type 0} (L : Layout A) {ws m m′ : List ℕ} {at to at′ to′ : ℕ} (below : Below (2 ^ 32) ws) (inside : at ≤ length ws) (laid : Laid (L .format) way ws m m′ at to at′ to′) where
+  -- Whatever the layout, a pass over the words from a place where a good value stands ends right behind it.
+  behind-here : (a : A) → Here L ws at a → (at′ < refused) × (at′ ≡ at + length (wordsOf L a))
+  behind-here a here =
+      let parsed : parse Reading.words L (drop at ws) ≡ found a (here .rest) = ap (parse Reading.words L) (here .stands .words-are) ∙ parse-encoded wordFields words-sensible words-literal L a (here .good) (here .rest) in
+      let landed : Landed L way ws m m′ to at′ to′ a (here .rest) = subst (Lands L way ws m m′ to at′ to′) parsed (lands L words-sensible below inside laid) in
+      let long : length ws - at ≡ length (wordsOf L a) + length (here .rest) = sym (length-drop at ws) ∙ ap length (here .stands .words-are) ∙ length-append (wordsOf L a) (here .rest) in
+      (landed .on, omega (arith, landed .at-is, inside))
+
+  pub passed : at′ < refused → Passed L ws at at′
+  passed on = record { is = λ a here. behind-here a here .1; inside = laid .carried .ready .inside on }
+
+  pub not-passed : refused ≤ at′ → Passed L ws at at
+  not-passed gone = record { is = λ a here. absurd (omega (arith, gone, behind-here a here .0)); inside = inside }

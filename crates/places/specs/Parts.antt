@@ -2,7 +2,7 @@
 use mathlib.Core.Option.{Option}
 use Prim.Native.Nat.{ℕ}
 use mathlib.Core.List.{List}
-use Rattle.format.specs.Alternative.{told}
+use Rattle.format.specs.Alternative.{chosen}
 use Rattle.format.specs.Layout.{Layout, field, _&_}
 use Rattle.drawing.specs.Fields.{byteIn, flowFlag, memberCount}
 use Rattle.drawing.specs.String.{String, string}
@@ -28,7 +28,7 @@ ValueOf BeforeAlternative = String × (String × (String × (String × (ℕ × �
 -- The layout of a part, in a drawing of this version.
 abbrev pub layoutOf : (part : Part) → ℕ → Layout (ValueOf part)
 layoutOf Count v = field memberCount
-layoutOf (Leaf letter) v = told (pathCase v) (otherCases v) letter
+layoutOf (Leaf letter) v = chosen (pathCase v) (otherCases v) letter
 layoutOf FlowFlag v = field flowFlag
 layoutOf Paint v = P.paint v
 layoutOf PlainPaint v = P.plainPaint v

@@ -25,7 +25,7 @@ use Rattle.drawing.specs.Refusal.{Refused}
 use Rattle.drawing.specs.Table.{startIn, IsTable}
 use Rattle.drawing.specs.TableDrawing.{drawingOfTable}
 use Rattle.drawing.specs.Order.{objectsOf, descriptionOf, entries, groupsAround, ParentChain}
-use Rattle.drawing.specs.Answers.{overwrite, roomFault, stored, noTable, tableChecked, Output, nothingStored, tableWritten, listed, tableListed}
+use Rattle.drawing.specs.Answers.{overwrite, roomFault, stored, tableRefused, tableChecked, Output, nothingStored, tableWritten, listed, tableListed}
 use Rattle.drawing.specs.Questions as Q
 use Rattle.drawing.specs.Questions.{CharsAt}
 use Rattle.drawing.specs.Computed.{fromTable, readFrom, readResult, checkAnswer, writeOutput, listOutput, paintAnswer, textValue, textIn, textAnswer}
@@ -78,7 +78,7 @@ pub of-table : {R : Type 0} {contents bodies : List ℕ} (of : Drawing → R) (b
 of-table of bad below is = by-table (told-by-table of bad below is)
 
 pub checks : {contents bodies : List ℕ} {r : Answer} → Below (2 ^ 32) bodies → r ≡ checkAnswer contents bodies → Checks contents bodies r
-checks below is = record { decides = of-table tableChecked noTable below is; says = is }
+checks below is = record { decides = of-table tableChecked tableRefused below is; says = is }
 
 pub writes : {contents bodies file file′ : List ℕ} {r : Answer} → Below (2 ^ 32) bodies → outputTo r file′ ≡ writeOutput contents bodies file → Writes contents bodies file r file′
 writes {file = file} below is = record { decides = of-table (tableWritten file) (nothingStored file) below is; says = is }

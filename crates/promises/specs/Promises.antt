@@ -23,7 +23,7 @@ use Rattle.drawing.specs.Drawing.{Drawing, IsFile}
 use Rattle.drawing.specs.Refusal.{Refused}
 use Rattle.drawing.specs.Table.{IsTable}
 use Rattle.drawing.specs.Order.{objectsOf, descriptionOf, entries, groupsAround, ParentChain}
-use Rattle.drawing.specs.Answers.{ReadResult, fileRead, unread, noTable, tableChecked, Output, nothingStored, tableWritten, tableListed}
+use Rattle.drawing.specs.Answers.{ReadResult, fileRead, unread, tableRefused, tableChecked, Output, nothingStored, tableWritten, tableListed}
 use Rattle.drawing.specs.Questions.{refusal, partOf, paintPart, paintAsked, paintGiven, paintOf, textAsked, noText, textGiven, leafPart, alternativeOf, CharsAt}
 use Rattle.drawing.specs.Computed.{readResult, checkAnswer, writeOutput, listOutput, paintAnswer, textAnswer}
 
@@ -58,7 +58,7 @@ pub data OfTable {R : Type 0} (contents bodies : List ℕ) (of : Drawing → R) 
 -- ---- check
 
 pub record Checks (contents bodies : List ℕ) (r : Answer) : Type 0 where
-  pub decides : OfTable contents bodies tableChecked noTable r
+  pub decides : OfTable contents bodies tableChecked tableRefused r
   pub says : r ≡ checkAnswer contents bodies
 
 -- ---- write

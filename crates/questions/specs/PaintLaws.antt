@@ -15,7 +15,7 @@ use lib.IntN.{pos}
 use borrow.Author.Tests.{ne-eqb}
 use Rattle.format.specs.Kind.{Allowed}
 use Rattle.format.specs.Layout.{Layout, field, either, _&_}
-use Rattle.format.specs.Alternative.{Alternative, told}
+use Rattle.format.specs.Alternative.{Alternative, chosen}
 use Rattle.format.specs.FloatRange.{fromZeroTo, fromZeroBelow}
 use Rattle.drawing.specs.Fields.{component, hue, integerIn}
 use Rattle.drawing.specs.FieldLaws.{unless-zero, and-both}
@@ -96,7 +96,7 @@ all-numbers (x ∷ xs) all = (all .0 .is-number, all-numbers xs (all .1))
 
 -- What stands behind the letter of a good plain paint.
 abbrev plainParts : ℕ → P.Plain → Layout P.Plain
-plainParts v p = told P.transparentCase (P.plainCases v) (P.plainLetter p)
+plainParts v p = chosen P.transparentCase (P.plainCases v) (P.plainLetter p)
 
 plain-parts : (v : ℕ) (p : P.Plain) → plainParts v p .Good p → (wordsOf (plainParts v p) p ≡ spelled (componentsOf p)) × Components (componentsOf p)
 plain-parts v P.transparent good = (by (leb 4 v) refl, tt)
@@ -169,11 +169,11 @@ NotTold c [] = Unit {0}
 NotTold c (x ∷ xs) = ((x .on && eqb c (x .tag)) ≡ false) × NotTold c xs
 
 module _ {B : Type 0} {tagOf : B → ℕ} (first : Alternative B tagOf) (c : ℕ) (b : B) (more : List (Alternative B tagOf)) where
-  passed-over : (xs : List (Alternative B tagOf)) → NotTold c xs → Same (told first (xs ++ more) c) b (told first more c) b
+  passed-over : (xs : List (Alternative B tagOf)) → NotTold c xs → Same (chosen first (xs ++ more) c) b (chosen first more c) b
   passed-over [] none = record { good = λ g. g; words = refl }
   passed-over (x ∷ xs) none = by (x .on && eqb c (x .tag)) (none .0) (passed-over xs (none .1))
     where
-      by : (t : Bool) → t ≡ false → Same (told first (xs ++ more) c) b (told first more c) b → Same (either t (x .layout) (told first (xs ++ more) c)) b (told first more c) b
+      by : (t : Bool) → t ≡ false → Same (chosen first (xs ++ more) c) b (chosen first more c) b → Same (either t (x .layout) (chosen first (xs ++ more) c)) b (chosen first more c) b
       by true e same = absurd (true≢false e)
       by false e same = record { good = same .good; words = same .words }
 
@@ -193,21 +193,21 @@ abbrev gradients : ℕ → List (Alternative P.Paint P.paintLetter)
 gradients v = drop 4 (P.paintCases v)
 
 abbrev paintParts : ℕ → P.Paint → Layout P.Paint
-paintParts v p = told (P.asPaint P.transparentCase) (P.paintCases v) (P.paintLetter p)
+paintParts v p = chosen (P.asPaint P.transparentCase) (P.paintCases v) (P.paintLetter p)
 
 -- A plain paint's parts are the same among all paints.
 as-plain : (v : ℕ) (p : P.Plain) → Same (paintParts v (P.plain p)) (P.plain p) (plainParts v p) p
 as-plain v p = cases (P.plainCases v)
   where
-    none : Same (told (P.asPaint P.transparentCase) (gradients v) (P.plainLetter p)) (P.plain p) (P.asPaint P.transparentCase .layout) (P.plain p)
+    none : Same (chosen (P.asPaint P.transparentCase) (gradients v) (P.plainLetter p)) (P.plain p) (P.asPaint P.transparentCase .layout) (P.plain p)
     none = passed-over (P.asPaint P.transparentCase) (P.plainLetter p) (P.plain p) [] (gradients v) (ne-eqb (P.plainLetter p) (code "G") (no-gradient p .0), (off (leb 3 v) (ne-eqb (P.plainLetter p) (code "D") (no-gradient p .1)), tt))
 
-    cases : (xs : List (Alternative P.Plain P.plainLetter)) → Same (told (P.asPaint P.transparentCase) (map P.asPaint xs ++ gradients v) (P.plainLetter p)) (P.plain p) (told P.transparentCase xs (P.plainLetter p)) p
+    cases : (xs : List (Alternative P.Plain P.plainLetter)) → Same (chosen (P.asPaint P.transparentCase) (map P.asPaint xs ++ gradients v) (P.plainLetter p)) (P.plain p) (chosen P.transparentCase xs (P.plainLetter p)) p
     cases [] = record { good = λ g. none .good g .1; words = none .words }
     cases (x ∷ xs) = by (x .on && eqb (P.plainLetter p) (x .tag)) (cases xs)
       where
-        by : (t : Bool) → Same (told (P.asPaint P.transparentCase) (map P.asPaint xs ++ gradients v) (P.plainLetter p)) (P.plain p) (told P.transparentCase xs (P.plainLetter p)) p
-            → Same (either t (P.asPaint x .layout) (told (P.asPaint P.transparentCase) (map P.asPaint xs ++ gradients v) (P.plainLetter p))) (P.plain p) (either t (x .layout) (told P.transparentCase xs (P.plainLetter p))) p
+        by : (t : Bool) → Same (chosen (P.asPaint P.transparentCase) (map P.asPaint xs ++ gradients v) (P.plainLetter p)) (P.plain p) (chosen P.transparentCase xs (P.plainLetter p)) p
+            → Same (either t (P.asPaint x .layout) (chosen (P.asPaint P.transparentCase) (map P.asPaint xs ++ gradients v) (P.plainLetter p))) (P.plain p) (either t (x .layout) (chosen P.transparentCase xs (P.plainLetter p))) p
         by true same = record { good = λ g. g .1; words = refl }
         by false same = record { good = same .good; words = same .words }
 
@@ -256,12 +256,12 @@ module _ (v : ℕ) {ws : List ℕ} {at : ℕ} where
   radial-is (P.linear f t n) here letter = absurd (let z : _≡_ {A = ℕ} (code "G") (code "D") = sym (letter-first here .1) ∙ letter in omega arith)
   radial-is (P.radial f t n) here letter = by (leb 3 v) refl
     where
-      same : Same (paintParts v (P.radial f t n)) (P.radial f t n) (told (P.asPaint P.transparentCase) (gradients v) (code "D")) (P.radial f t n)
+      same : Same (paintParts v (P.radial f t n)) (P.radial f t n) (chosen (P.asPaint P.transparentCase) (gradients v) (code "D")) (P.radial f t n)
       same = passed-over (P.asPaint P.transparentCase) (code "D") (P.radial f t n) (gradients v) (map P.asPaint (P.plainCases v)) (refl, (refl, (off (leb 4 v) refl, (off (leb 4 v) refl, tt))))
 
       by : (t′ : Bool) → leb 3 v ≡ t′ → GradientIs v 8 P.radial ws at (P.radial f t n)
       by true on =
-          let last : wordsOf (told (P.asPaint P.transparentCase) (gradients v) (code "D")) (P.radial f t n) ≡ wordsOf (gradient v 8) (f, (t, n)) = rw on in
+          let last : wordsOf (chosen (P.asPaint P.transparentCase) (gradients v) (code "D")) (P.radial f t n) ≡ wordsOf (gradient v 8) (f, (t, n)) = rw on in
           record { start = f; end = t; last = n; is = refl; here = here-behind here (code "D" ∷ []) (gradient v 8) (ap (λ l. code "D" ∷ l) (same .words ∙ last)) ((rw on at (same .good (here .good .1))) .1) }
       by false on = let none = rw on at (same .good (here .good .1)) in absurd none
 

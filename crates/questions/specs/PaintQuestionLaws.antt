@@ -1,5 +1,5 @@
 -- The paints of a row's object.
-use mathlib.Core.Path.{_≡_, refl, sym, ap, _∙_}
+use mathlib.Core.Path.{_≡_, refl, sym, ap, subst, _∙_}
 use mathlib.Core.Option.{none, some}
 use Prim.Native.Nat.{ℕ, _≤_}
 use Prim.Native.Char.{code}
@@ -46,9 +46,11 @@ module _ (c bs : List ℕ) (v r : ℕ) where
   abbrev behindPaints : Layout (LineStyle × (ℕ × (Point × List Segment)))
   behindPaints = lineStyle v & field (charWhere (oneOfChars (code "O" ∷ code "C" ∷ []))) & outline v
 
-  paints-here : (p : Path) (d : String) → RowBody c bs v r (leaf (path p) d)
-      → Here (P.paint v & P.paint v & behindPaints) bs (startIn c r) (p .linePaint, (p .fillPaint, (p .style, (p .openOrClosed, (p .start, p .segments)))))
-  paints-here p d row = here-as (leaf-here c bs v r (path p) d row) (P.paint v & P.paint v & behindPaints) refl (row .good .0 .1 .1)
+  paints-here : {start : ℕ} → start ≡ startIn c r → (p : Path) (d : String) → RowBody c bs v r (leaf (path p) d)
+      → Here (P.paint v & P.paint v & behindPaints) bs start (p .linePaint, (p .fillPaint, (p .style, (p .openOrClosed, (p .start, p .segments)))))
+  paints-here start-is p d row =
+      subst (λ at. Here (P.paint v & P.paint v & behindPaints) bs at (p .linePaint, (p .fillPaint, (p .style, (p .openOrClosed, (p .start, p .segments)))))) (sym start-is)
+      (here-as (leaf-here c bs v r (path p) d row) (P.paint v & P.paint v & behindPaints) refl (row .good .0 .1 .1))
 
   -- A row's kind says that its object is a path.
   of-path : (P : Object → Type 0) → ((p : Path) (d : String) → RowBody c bs v r (leaf (path p) d) → P (leaf (path p) d))
@@ -58,22 +60,25 @@ module _ (c bs : List ℕ) (v r : ℕ) where
   of-path P by (leaf (bitmap b) d) row kind = absurd (omega (arith, row .kind-is))
   of-path P by (group os d) row kind = absurd (omega (arith, row .kind-is))
 
-  pub line-painted : (o : Object) → RowBody c bs v r o → kindIn c r ≡ 2 → Painted Line o (startIn c r)
-  line-painted =
-      of-path (λ o. Painted Line o (startIn c r))
-      (λ p d row. record { paint = p .linePaint; here = here-first (P.paint v) (P.paint v & behindPaints) (paints-here p d row); part-is = refl })
+  -- Where the start is that of the row.
+  module _ {start : ℕ} (start-is : start ≡ startIn c r) where
+    pub line-painted : (o : Object) → RowBody c bs v r o → kindIn c r ≡ 2 → Painted Line o start
+    line-painted =
+        of-path (λ o. Painted Line o start)
+        (λ p d row. record { paint = p .linePaint; here = here-first (P.paint v) (P.paint v & behindPaints) (paints-here start-is p d row); part-is = refl })
 
-  pub fill-painted : {fill : ℕ} → Behind (P.paint v) bs (startIn c r) fill → (o : Object) → RowBody c bs v r o → kindIn c r ≡ 2 → Painted Fill o fill
-  fill-painted {fill} is =
-      of-path (λ o. Painted Fill o fill)
-      (λ p d row.
-      record { paint = p .fillPaint; here = here-first (P.paint v) behindPaints (here-next (P.paint v) (P.paint v & behindPaints) (paints-here p d row) is); part-is = refl })
+    pub fill-painted : {fill : ℕ} → Behind (P.paint v) bs start fill → (o : Object) → RowBody c bs v r o → kindIn c r ≡ 2 → Painted Fill o fill
+    fill-painted {fill} is =
+        of-path (λ o. Painted Fill o fill)
+        (λ p d row.
+        record { paint = p .fillPaint; here = here-first (P.paint v) behindPaints (here-next (P.paint v) (P.paint v & behindPaints) (paints-here start-is p d row) is); part-is = refl })
 
-  -- ---- texts
+    -- ---- texts
 
-  module _ {latex paint : ℕ} (latex-is : Behind T.font bs (startIn c r) latex) (paint-is : Behind (ifFlag T.latex) bs latex paint) where
-    pub text-painted : (o : Object) → RowBody c bs v r o → kindIn c r ≡ 3 → Painted Text o paint
-    text-painted = of-text c bs v r (λ o. Painted Text o paint) (λ t d row. record { paint = t .paint; here = text-paint c bs v r latex-is t d row paint-is; part-is = refl })
+    pub text-painted : {latex paint : ℕ} → Behind T.font bs start latex → Behind (ifFlag T.latex) bs latex paint → (o : Object) → RowBody c bs v r o → kindIn c r ≡ 3 → Painted Text o paint
+    text-painted {latex} {paint} latex-is paint-is =
+        of-text c bs v r (λ o. Painted Text o paint)
+        (λ t d row. record { paint = t .paint; here = text-paint c bs v r (subst (λ at. Behind T.font bs at latex) start-is latex-is) t d row paint-is; part-is = refl })
 
   -- ---- the answers
 

@@ -1,5 +1,5 @@
 -- Where the fields of a row's text stand, and the chars of its strings.
-use mathlib.Core.Path.{_≡_, refl, sym, ap, ap₂, _∙_}
+use mathlib.Core.Path.{_≡_, refl, sym, ap, ap₂, subst, _∙_}
 use mathlib.Core.Option.{Option, none, some}
 use Prim.Native.Nat.{ℕ, _+_, _-_, _<_, _≤_}
 use native.Mathlib.Omega.{arith}
@@ -118,7 +118,10 @@ module _ (c bs : List ℕ) (v r : ℕ) where
   -- ---- the answers
 
   module _ (o : Object) (row : RowBody c bs v r o) where
-    module _ (kind : kindIn c r ≡ 3) {latex : ℕ} (latex-is : Behind T.font bs (startIn c r) latex) where
+    module _ (kind : kindIn c r ≡ 3) {start latex : ℕ} (start-is : start ≡ startIn c r) (behind-font : Behind T.font bs start latex) where
+      latex-is : Behind T.font bs (startIn c r) latex
+      latex-is = subst (λ at. Behind T.font bs at latex) start-is behind-font
+
       pub latex-holds : length bs ≤ lengthLimit → Holds (ifFlag T.latex) bs latex
       latex-holds short = of-text (λ x. Holds (ifFlag T.latex) bs latex) (λ t d row. record { short = short; value = t .latex; here = text-latex latex-is t d row }) o row kind
 

@@ -2,8 +2,16 @@
 use crate::paint_words::paint_at;
 use drawing::PaintAnswer;
 use drawing::Which;
+use drawing::numbers::ACCEPTED;
+use drawing::numbers::NO_PART;
+use drawing::numbers::NO_ROW;
+use drawing::numbers::NO_TABLE;
+use drawing::row::PATH_KIND;
+use drawing::row::TEXT_KIND;
 use places::Part;
 use places::behind::behind;
+use rows::look::kind_in;
+use rows::look::start_in;
 use table::answers::check;
 ghost use Rattle.promises.specs.Promises.{Paints};
 ghost use Rattle.places.specs.Rows.{HasRow};
@@ -14,29 +22,29 @@ fn paint_of(contents: &[u32], words: &[u32], row: usize, version: u32, which: Wh
     requires { ⌜ HasRow (now contents) (now words) version row ⌝ }
     ensures { λ r. ⌜ PaintOf (now (contents .entry)) (now (words .entry)) version row which r ⌝ }
 {
-    let kind = contents[4 * row];
-    let start = contents[4 * row + 2] as usize;
+    let kind = kind_in(&*contents, row);
+    let start = start_in(&*contents, row);
     match which {
         Which::Line => {
-            if kind != 2 {
-                return PaintAnswer::Refused(7);
+            if kind != PATH_KIND {
+                return PaintAnswer::Refused(NO_PART);
             }
-            return paint_at(words, start, version);
+            return paint_at(&*words, start, version);
         }
         Which::Fill => {
-            if kind != 2 {
-                return PaintAnswer::Refused(7);
+            if kind != PATH_KIND {
+                return PaintAnswer::Refused(NO_PART);
             }
-            let fill = behind(words, start, version, Part::Paint);
-            return paint_at(words, fill, version);
+            let fill = behind(&*words, start, version, Part::Paint);
+            return paint_at(&*words, fill, version);
         }
         Which::Text => {
-            if kind != 3 {
-                return PaintAnswer::Refused(7);
+            if kind != TEXT_KIND {
+                return PaintAnswer::Refused(NO_PART);
             }
-            let latex = behind(words, start, version, Part::Font);
-            let paint = behind(words, latex, version, Part::Latex);
-            return paint_at(words, paint, version);
+            let latex = behind(&*words, start, version, Part::Font);
+            let paint = behind(&*words, latex, version, Part::Latex);
+            return paint_at(&*words, paint, version);
         }
     }
 }
@@ -44,13 +52,13 @@ fn paint_of(contents: &[u32], words: &[u32], row: usize, version: u32, which: Wh
 pub fn paint(contents: &[u32], words: &[u32], row: u32, which: Which) -> PaintAnswer
     ensures { λ r. ⌜ Paints (now (contents .entry)) (now (words .entry)) row which r ⌝ }
 {
-    let checked = check(contents, words);
-    if checked.number != 0 {
-        return PaintAnswer::Refused(16);
+    let checked = check(&*contents, &*words);
+    if checked.number != ACCEPTED {
+        return PaintAnswer::Refused(NO_TABLE);
     }
     if checked.rows <= row {
-        return PaintAnswer::Refused(6);
+        return PaintAnswer::Refused(NO_ROW);
     }
     let version = words[0];
-    paint_of(contents, words, row as usize, version, which)
+    paint_of(&*contents, &*words, row as usize, version, which)
 }

@@ -1,6 +1,12 @@
 // Paints, as they stand in the words of a table.
 use drawing::Paint;
 use drawing::PaintAnswer;
+use drawing::letters::CMYK;
+use drawing::letters::GREY;
+use drawing::letters::HSB;
+use drawing::letters::LINEAR;
+use drawing::letters::RADIAL;
+use drawing::letters::RGB;
 use places::Part;
 use places::behind::behind;
 ghost use mathlib.Core.Path.{_≡_};
@@ -23,36 +29,36 @@ fn plain_at(words: &[u32], at: usize) -> Paint
     requires { ⌜ PlainHere (now words) at ⌝ }
     ensures { λ r. ⌜ r ≡ plainValue (plainAt (now (words .entry)) at) ⌝ }
 {
-    let letter = words[at];
-    if letter == 82 {
+    let letter = words[at] as u64;
+    if letter == RGB {
         return Paint::Rgb {
-            red: float_at(words, at, 1),
-            green: float_at(words, at, 2),
-            blue: float_at(words, at, 3),
-            alpha: float_at(words, at, 4),
+            red: float_at(&*words, at, 1),
+            green: float_at(&*words, at, 2),
+            blue: float_at(&*words, at, 3),
+            alpha: float_at(&*words, at, 4),
         };
     }
-    if letter == 67 {
+    if letter == CMYK {
         return Paint::Cmyk {
-            cyan: float_at(words, at, 1),
-            magenta: float_at(words, at, 2),
-            yellow: float_at(words, at, 3),
-            black: float_at(words, at, 4),
-            alpha: float_at(words, at, 5),
+            cyan: float_at(&*words, at, 1),
+            magenta: float_at(&*words, at, 2),
+            yellow: float_at(&*words, at, 3),
+            black: float_at(&*words, at, 4),
+            alpha: float_at(&*words, at, 5),
         };
     }
-    if letter == 89 {
+    if letter == GREY {
         return Paint::Grey {
-            grey: float_at(words, at, 1),
-            alpha: float_at(words, at, 2),
+            grey: float_at(&*words, at, 1),
+            alpha: float_at(&*words, at, 2),
         };
     }
-    if letter == 83 {
+    if letter == HSB {
         return Paint::Hsb {
-            hue: float_at(words, at, 1),
-            saturation: float_at(words, at, 2),
-            brightness: float_at(words, at, 3),
-            alpha: float_at(words, at, 4),
+            hue: float_at(&*words, at, 1),
+            saturation: float_at(&*words, at, 2),
+            brightness: float_at(&*words, at, 3),
+            alpha: float_at(&*words, at, 4),
         };
     }
     Paint::Transparent
@@ -63,24 +69,24 @@ pub fn paint_at(words: &[u32], at: usize, version: u32) -> PaintAnswer
     requires { ⌜ Holds (P.paint version) (now words) at ⌝ }
     ensures { λ r. ⌜ PaintRead (now (words .entry)) version at r ⌝ }
 {
-    let letter = words[at];
-    if letter == 71 {
-        let second = behind(words, at + 1, version, Part::PlainPaint);
-        let last = behind(words, second, version, Part::PlainPaint);
+    let letter = words[at] as u64;
+    if letter == LINEAR {
+        let second = behind(&*words, at + 1, version, Part::PlainPaint);
+        let last = behind(&*words, second, version, Part::PlainPaint);
         return PaintAnswer::Linear {
-            start: plain_at(words, at + 1),
-            end: plain_at(words, second),
+            start: plain_at(&*words, at + 1),
+            end: plain_at(&*words, second),
             direction: words[last],
         };
     }
-    if letter == 68 {
-        let second = behind(words, at + 1, version, Part::PlainPaint);
-        let last = behind(words, second, version, Part::PlainPaint);
+    if letter == RADIAL {
+        let second = behind(&*words, at + 1, version, Part::PlainPaint);
+        let last = behind(&*words, second, version, Part::PlainPaint);
         return PaintAnswer::Radial {
-            start: plain_at(words, at + 1),
-            end: plain_at(words, second),
+            start: plain_at(&*words, at + 1),
+            end: plain_at(&*words, second),
             location: words[last],
         };
     }
-    PaintAnswer::Plain(plain_at(words, at))
+    PaintAnswer::Plain(plain_at(&*words, at))
 }

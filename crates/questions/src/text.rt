@@ -1,8 +1,15 @@
 // The text question.
 use drawing::Span;
 use drawing::TextAnswer;
+use drawing::numbers::ACCEPTED;
+use drawing::numbers::NO_PART;
+use drawing::numbers::NO_ROW;
+use drawing::numbers::NO_TABLE;
+use drawing::row::TEXT_KIND;
 use places::Part;
 use places::behind::behind;
+use rows::look::kind_in;
+use rows::look::start_in;
 use table::answers::check;
 ghost use mathlib.Core.Path.{_≡_};
 ghost use Prim.Native.Nat.{_<_, _≤_};
@@ -50,8 +57,8 @@ fn alternative_chars(words: &[u32], at: usize, version: u32) -> Span
     ensures { λ r. ⌜ AlternativeRead (now (words .entry)) at r ⌝ }
 {
     if words[at] == 1 {
-        let alternative = behind(words, at + 1, version, Part::BeforeAlternative);
-        return chars_at(words, alternative);
+        let alternative = behind(&*words, at + 1, version, Part::BeforeAlternative);
+        return chars_at(&*words, alternative);
     }
     Span {
         start: 0,
@@ -64,31 +71,31 @@ fn text_of(contents: &[u32], words: &[u32], row: usize, version: u32) -> TextAns
     requires { ⌜ HasRow (now contents) (now words) version row ⌝ }
     ensures { λ r. ⌜ TextOf (now (contents .entry)) (now (words .entry)) version row r ⌝ }
 {
-    let kind = contents[4 * row];
-    let start = contents[4 * row + 2] as usize;
-    if kind != 3 {
-        return refused(7);
+    let kind = kind_in(&*contents, row);
+    let start = start_in(&*contents, row);
+    if kind != TEXT_KIND {
+        return refused(NO_PART);
     }
-    let latex = behind(words, start, version, Part::Font);
-    let paint = behind(words, latex, version, Part::Latex);
-    let chars = behind(words, paint, version, Part::Paint);
+    let latex = behind(&*words, start, version, Part::Font);
+    let paint = behind(&*words, latex, version, Part::Latex);
+    let chars = behind(&*words, paint, version, Part::Paint);
     TextAnswer {
-        number: 0,
-        alternative: alternative_chars(words, latex, version),
-        text: chars_at(words, chars),
+        number: ACCEPTED,
+        alternative: alternative_chars(&*words, latex, version),
+        text: chars_at(&*words, chars),
     }
 }
 
 pub fn text(contents: &[u32], words: &[u32], row: u32) -> TextAnswer
     ensures { λ r. ⌜ Texts (now (contents .entry)) (now (words .entry)) row r ⌝ }
 {
-    let checked = check(contents, words);
-    if checked.number != 0 {
-        return refused(16);
+    let checked = check(&*contents, &*words);
+    if checked.number != ACCEPTED {
+        return refused(NO_TABLE);
     }
     if checked.rows <= row {
-        return refused(6);
+        return refused(NO_ROW);
     }
     let version = words[0];
-    text_of(contents, words, row as usize, version)
+    text_of(&*contents, &*words, row as usize, version)
 }

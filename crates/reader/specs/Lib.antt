@@ -1,5 +1,14 @@
--- What the reader stores, by what was scanned.
-pub mod FileHere
-pub mod Fills
-pub mod FillLaws
+-- What the reader's descent comes to, by what the file parses to.
+pub mod Descents
+pub mod FieldsAt
+pub mod BodyLaws
+pub mod ObjectLaws
+pub mod MemberLaws
+pub mod GroupLaws
+pub mod Heads
+pub mod OuterLaws
+pub mod Files
+pub mod FileLaws
+pub mod FaultLaws
+pub mod NumberLaws
 pub mod ReadLaws

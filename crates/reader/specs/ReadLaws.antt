@@ -1,36 +1,59 @@
 -- The laws of reading: what the first pass says decides the answer, and the second pass stores what the definition does.
 use mathlib.Core.Path.{_≡_, refl, sym, ap, ap₂, subst, _∙_}
 use mathlib.Core.Bool.{Bool, true, false, cond}
-use Prim.Native.Nat.{ℕ, _-_, _*_, _/_, _<_, _≤_}
+use Prim.Native.Nat.{ℕ, _+_, _-_, _/_, _<_, _≤_}
+use native.Mathlib.Nat as Nat
 use native.Mathlib.Omega.{arith}
-use mathlib.Core.List.{List, [], _∷_}
+use mathlib.Core.List.{List, [], _∷_, _++_}
 use lib.Dec.{leb, ltb}
-use lib.ListN.{length}
+use lib.ListN.{length, drop}
 use borrow.Author.Tests.{le-leb, lt-leb, ltb-false}
 use Rattle.format.specs.Digits.{Below}
 use Rattle.format.specs.Codec.{Outcome, found, refused}
 use Rattle.format.specs.Parse.{parse}
+use Rattle.format.specs.Pass.{splice}
+use Rattle.drawing.specs.declared.Answer.{Answer}
 use Rattle.drawing.specs.Reading.{bytes, Reading, drawing, refusal, reading, drawingOf}
 use Rattle.drawing.specs.Limits.{lengthLimit}
 use Rattle.drawing.specs.Fields.{unless, orElse}
-use Rattle.drawing.specs.Drawing.{Drawing, file as fileLayout}
-use Rattle.drawing.specs.Table.{rowWidth}
-use Rattle.drawing.specs.Answers.{answer, rowsOf, wordCount, roomFault, stored}
+use Rattle.drawing.specs.Drawing.{Drawing, outer, file as fileLayout}
+use Rattle.drawing.specs.Table.{headWords, contentsOf, bodiesOf}
+use Rattle.drawing.specs.Answers.{answer, overwrite, rowsOf, wordCount, roomFault, stored}
 use Rattle.drawing.specs.Computed.{readFrom, readResult}
+use Rattle.laws.specs.OrderLaws.{contents-length}
 use Rattle.promises.specs.Promises.{Reads}
 use Rattle.promises.specs.PromiseLaws.{reads}
-use Rattle.scanner.specs.declared.Scan.{Scan}
-use Rattle.scanner.specs.declared.Scan.the-variants as Scan
-use Rattle.scanner.specs.FileScans.{fileScan, ScannedFile}
-use Rattle.reader.specs.Fills.{Readable, Filled}
+use Rattle.ways.specs.Passes as Passes
+use Rattle.ways.specs.Written.{Writes}
+use Rattle.rows.specs.declared.walked.Walked.{Walked}
+use Rattle.reader.specs.Files.{Kept, ComesFile, DescendsFile}
+use Rattle.reader.specs.NumberLaws.{number-small}
 
--- An offset is within the limit.
+-- The file was found to hold a drawing, with so many rows and words, up to a place.
+pub record Judged (file : List ℕ) (at rows words : ℕ) : Type 0 where
+  pub d : Drawing
+  pub reads : drawingOf file ≡ drawing d
+  pub short : length file ≤ lengthLimit
+  pub at-is : at ≡ length file
+  pub rows-are : rows ≡ rowsOf d
+  pub words-are : words ≡ wordCount d
+  pub few-rows : rows ≤ lengthLimit
+  pub few-words : words ≤ lengthLimit
+
+-- It was refused, with this number and at this offset.
+pub record Refused (file : List ℕ) (n offset : ℕ) : Type 0 where
+  pub reads : drawingOf file ≡ refusal n offset
+  pub small : n ≤ 13
+  pub near : offset ≤ lengthLimit
+
+-- ---- the first pass
+
 offset-read : (total n o : ℕ) (q : Outcome Drawing) → total ≤ lengthLimit → reading total q ≡ refusal n o → o ≤ lengthLimit
 offset-read total n o (found d []) short e = let z : _≡_ {A = ℕ} 0 1 = cc in absurd (omega arith)
 offset-read total n o (found d (b ∷ rest)) short e = let same : total - length (b ∷ rest) ≡ o = cc in omega arith
 offset-read total n o (refused m place) short e = let same : total - length place ≡ o = cc in omega arith
 
-pub offset-small : (file : List ℕ) (n o : ℕ) → drawingOf file ≡ refusal n o → o ≤ lengthLimit
+offset-small : (file : List ℕ) (n o : ℕ) → drawingOf file ≡ refusal n o → o ≤ lengthLimit
 offset-small file n o e = by (ltb lengthLimit (length file)) refl
   where
     by : (t : Bool) → ltb lengthLimit (length file) ≡ t → o ≤ lengthLimit
@@ -42,100 +65,80 @@ offset-small file n o e = by (ltb lengthLimit (length file)) refl
         offset-read (length file) n o (parse bytes fileLayout file) (ltb-false lengthLimit (length file) is)
         (ap (λ t. cond t (refusal 1 lengthLimit) (reading (length file) (parse bytes fileLayout file))) (sym is) ∙ e)
 
--- A file with a drawing is not too long.
-not-long : (file : List ℕ) (d : Drawing) → drawingOf file ≡ drawing d → length file ≤ lengthLimit
-not-long file d e = by (ltb lengthLimit (length file)) refl
-  where
-    by : (t : Bool) → ltb lengthLimit (length file) ≡ t → length file ≤ lengthLimit
-    by true is =
-        let gone : _≡_ {A = Reading} (refusal 1 lengthLimit) (drawing d) = ap (λ t. cond t (refusal 1 lengthLimit) (reading (length file) (parse bytes fileLayout file))) (sym is) ∙ e in
-        let z : _≡_ {A = ℕ} 0 1 = cc in
-        absurd (omega arith)
-    by false is = ltb-false lengthLimit (length file) is
+module _ {file cs bs cs′ bs′ : List ℕ} {r : Walked} (descends : DescendsFile file cs bs cs′ bs′ r) where
+  pub judged-refused : Passes.refused ≤ r .at → Refused file (r .to) (r .at - Passes.refused)
+  judged-refused off = by (drawingOf file) refl (descends .comes)
+    where
+      by : (q : Reading) → drawingOf file ≡ q → ComesFile file cs bs cs′ bs′ r q → Refused file (r .to) (r .at - Passes.refused)
+      by (drawing d) is kept = absurd (omega (arith, kept .at-is, kept .short))
+      by (refusal n o) is gone =
+          let back : o ≡ r .at - Passes.refused = omega (arith, gone .at-is) in
+          let reads : drawingOf file ≡ refusal (r .to) (r .at - Passes.refused) = is ∙ ap₂ (λ x y. refusal x y) (sym (gone .to-is)) back in
+          record { reads = reads; small = number-small file (r .to) (r .at - Passes.refused) reads; near = offset-small file (r .to) (r .at - Passes.refused) reads }
 
-module _ (file cs bs : List ℕ) where
-  -- ---- a refusal
+  pub judged-good : r .at < Passes.refused → Judged file (r .at) (r .row) (r .to)
+  judged-good on = by (drawingOf file) refl (descends .comes)
+    where
+      by : (q : Reading) → drawingOf file ≡ q → ComesFile file cs bs cs′ bs′ r q → Judged file (r .at) (r .row) (r .to)
+      by (drawing d) is kept =
+          record { d = d; reads = is; short = kept .short; at-is = kept .at-is; rows-are = kept .row-is; words-are = kept .to-is; few-rows = kept .few-rows; few-words = kept .few-words }
+      by (refusal n o) is gone = absurd (omega (arith, gone .at-is))
 
-  refused-reading : (n at : ℕ) (q : Reading) → Scan.Refused n at ≡ fileScan (length file) q → q ≡ refusal n at
-  refused-reading n at (drawing d) e = let z : _≡_ {A = ℕ} 0 1 = cc in absurd (omega arith)
-  refused-reading n at (refusal m o) e = let a : m ≡ n = cc in let b : o ≡ at = cc in ap₂ (λ x y. refusal x y) a b
+  -- The second pass meets the same drawing.
+  pub kept-again : {d : Drawing} → drawingOf file ≡ drawing d → Kept d file cs bs cs′ bs′ r
+  kept-again is = subst (ComesFile file cs bs cs′ bs′ r) is (descends .comes)
 
-  pub read-refused : Below 256 file → (n at : ℕ) → ScannedFile file (Scan.Refused n at) → Reads file cs bs (answer n at 0 0) cs bs
-  read-refused below n at s = reads below (sym (ap (λ q. readFrom q (length file) cs bs) (refused-reading n at (drawingOf file) (s .says))))
+-- ---- the answer
 
-  pub refused-small : (n at : ℕ) → ScannedFile file (Scan.Refused n at) → at ≤ lengthLimit
-  refused-small n at s = offset-small file n at (refused-reading n at (drawingOf file) (s .says))
+-- What is stored at the beginning overwrites it.
+splice-first : (ws s : List ℕ) → splice 0 ws s ≡ overwrite ws s
+splice-first ws s = ap (λ n. ws ++ drop n s) (Nat.zero-add (length ws))
 
-  -- ---- a drawing
+overwritten : {ws m m′ : List ℕ} → Writes 0 ws m m′ → length ws ≤ length m → m′ ≡ overwrite ws m
+overwritten {ws} {m} written fits = written .stands (omega arith) ∙ splice-first ws m
 
-  module _ (at rows words : ℕ) (s : ScannedFile file (Scan.Done at rows words)) where
-    record Found : Type 0 where
-      d : Drawing
-      reads : drawingOf file ≡ drawing d
-      at-is : at ≡ length file
-      rows-are : rows ≡ rowsOf d
-      words-are : words ≡ wordCount d
+module _ (file cs bs : List ℕ) (below : Below 256 file) where
+  pub read-refused : {n o : ℕ} {a : Answer} → Refused file n o → a ≡ answer n o 0 0 → Reads file cs bs a cs bs
+  read-refused gone is = reads below (ap (λ a. record { answer = a; contents = cs; bodies = bs }) is ∙ sym (ap (λ q. readFrom q (length file) cs bs) (gone .reads)))
 
-    found-reading : (q : Reading) → drawingOf file ≡ q → Scan.Done at rows words ≡ fileScan (length file) q → Found
-    found-reading (drawing d) is e = record { d = d; reads = is; at-is = cc; rows-are = cc; words-are = cc }
-    found-reading (refusal n o) is e = let z : _≡_ {A = ℕ} 0 1 = cc in absurd (omega arith)
-
-    here : Found
-    here = found-reading (drawingOf file) refl (s .says)
-
-    pub counts-small : (rows ≤ lengthLimit) × (words ≤ lengthLimit)
-    counts-small = s .few
-
+  module _ (at rows words : ℕ) (j : Judged file at rows words) where
     -- The result, by what the room lacks.
-    by-room : (f : ℕ) → roomFault (here .d) cs bs ≡ f → readResult file cs bs ≡ stored f (here .d) (length file) cs bs
-    by-room f e = ap (λ q. readFrom q (length file) cs bs) (here .reads) ∙ ap (λ f. stored f (here .d) (length file) cs bs) e
+    by-room : (f : ℕ) → roomFault (j .d) cs bs ≡ f → readResult file cs bs ≡ stored f (j .d) (length file) cs bs
+    by-room f e = ap (λ q. readFrom q (length file) cs bs) (j .reads) ∙ ap (λ f. stored f (j .d) (length file) cs bs) e
 
-    same-answer : (n : ℕ) → answer n at rows words ≡ answer n (length file) (rowsOf (here .d)) (wordCount (here .d))
-    same-answer n =
-        ap (λ a. answer n a rows words) (here .at-is)
-        ∙ ap (λ r. answer n (length file) r words) (here .rows-are)
-        ∙ ap (λ w. answer n (length file) (rowsOf (here .d)) w) (here .words-are)
+    same-answer : {n : ℕ} {a : Answer} → a ≡ answer n at rows words → a ≡ answer n (length file) (rowsOf (j .d)) (wordCount (j .d))
+    same-answer {n} is =
+        is
+        ∙ ap (λ a. answer n a rows words) (j .at-is)
+        ∙ ap (λ r. answer n (length file) r words) (j .rows-are)
+        ∙ ap (λ w. answer n (length file) (rowsOf (j .d)) w) (j .words-are)
 
-    pub short-rows : Below 256 file → length cs / 4 < rows → Reads file cs bs (answer 14 at rows words) cs bs
-    short-rows below h =
-        let lacks : leb (rowsOf (here .d)) (length cs / 4) ≡ false = lt-leb (rowsOf (here .d)) (length cs / 4) (subst (λ r. length cs / 4 < r) (here .rows-are) h) in
+    pub short-rows : {a : Answer} → length cs / 4 < rows → a ≡ answer 14 at rows words → Reads file cs bs a cs bs
+    short-rows lack is =
+        let lacks : leb (rowsOf (j .d)) (length cs / 4) ≡ false = lt-leb (rowsOf (j .d)) (length cs / 4) (subst (λ r. length cs / 4 < r) (j .rows-are) lack) in
         reads below
-        (ap (λ a. record { answer = a; contents = cs; bodies = bs }) (same-answer 14)
-        ∙ sym (by-room 14 (ap (λ t. orElse (unless t 14) (unless (leb (wordCount (here .d)) (length bs)) 15)) lacks)))
+        (ap (λ a. record { answer = a; contents = cs; bodies = bs }) (same-answer is)
+        ∙ sym (by-room 14 (ap (λ t. orElse (unless t 14) (unless (leb (wordCount (j .d)) (length bs)) 15)) lacks)))
 
     module _ (rows-fit : rows ≤ length cs / 4) where
-      enough-rows : leb (rowsOf (here .d)) (length cs / 4) ≡ true
-      enough-rows = le-leb (rowsOf (here .d)) (length cs / 4) (subst (λ r. r ≤ length cs / 4) (here .rows-are) rows-fit)
+      enough-rows : leb (rowsOf (j .d)) (length cs / 4) ≡ true
+      enough-rows = le-leb (rowsOf (j .d)) (length cs / 4) (subst (λ r. r ≤ length cs / 4) (j .rows-are) rows-fit)
 
-      pub short-words : Below 256 file → length bs < words → Reads file cs bs (answer 15 at rows words) cs bs
-      short-words below h =
-          let lacks : leb (wordCount (here .d)) (length bs) ≡ false = lt-leb (wordCount (here .d)) (length bs) (subst (λ w. length bs < w) (here .words-are) h) in
+      pub short-words : {a : Answer} → length bs < words → a ≡ answer 15 at rows words → Reads file cs bs a cs bs
+      short-words lack is =
+          let lacks : leb (wordCount (j .d)) (length bs) ≡ false = lt-leb (wordCount (j .d)) (length bs) (subst (λ w. length bs < w) (j .words-are) lack) in
           reads below
-          (ap (λ a. record { answer = a; contents = cs; bodies = bs }) (same-answer 15)
+          (ap (λ a. record { answer = a; contents = cs; bodies = bs }) (same-answer is)
           ∙ sym (by-room 15 (ap₂ (λ t u. orElse (unless t 14) (unless u 15)) enough-rows lacks)))
 
-      module _ (words-fit : words ≤ length bs) where
-        enough-words : leb (wordCount (here .d)) (length bs) ≡ true
-        enough-words = le-leb (wordCount (here .d)) (length bs) (subst (λ w. w ≤ length bs) (here .words-are) words-fit)
-
-        pub readable : Readable file cs bs
-        readable =
-            let scaled : rowWidth * rows ≤ length cs = omega arith in
-            record {
-              d = here .d;
-              reads = here .reads;
-              rows-hold = subst (λ r. rowWidth * r ≤ length cs) (here .rows-are) scaled;
-              words-hold = subst (λ w. w ≤ length bs) (here .words-are) words-fit;
-              rows-few = subst (λ r. r ≤ lengthLimit) (here .rows-are) (s .few .0);
-              words-few = subst (λ w. w ≤ lengthLimit) (here .words-are) (s .few .1);
-            }
-
-        pub read-stored : Below 256 file → (cs′ bs′ : List ℕ) → Filled file cs bs cs′ bs′ → Reads file cs bs (answer 0 at rows words) cs′ bs′
-        read-stored below cs′ bs′ f =
-            reads below
-            (ap (λ a. record { answer = a; contents = cs′; bodies = bs′ }) (same-answer 0)
-            ∙ ap₂ (λ c b. record { answer = answer 0 (length file) (rowsOf (here .d)) (wordCount (here .d)); contents = c; bodies = b }) (f .rows-are (here .d) (here .reads)) (f .words-are (here .d) (here .reads))
-            ∙ sym (by-room 0 (ap₂ (λ t u. orElse (unless t 14) (unless u 15)) enough-rows enough-words)))
-
-    pub at-small : at ≤ lengthLimit
-    at-small = subst (λ n. n ≤ lengthLimit) (sym (here .at-is)) (not-long file (here .d) (here .reads))
+      pub read-stored : {cs′ bs′ : List ℕ} {r : Walked} {a : Answer} → words ≤ length bs → DescendsFile file cs bs cs′ bs′ r → a ≡ answer 0 at rows words → Reads file cs bs a cs′ bs′
+      read-stored {cs′} {bs′} {r} words-fit descends is =
+          let kept = kept-again descends (j .reads) in
+          let enough-words = le-leb (wordCount (j .d)) (length bs) (subst (λ w. w ≤ length bs) (j .words-are) words-fit) in
+          let long = contents-length (outer (j .d)) (j .d .version) 0 0 (length (headWords (j .d))) in
+          let rows-stored : cs′ ≡ overwrite (contentsOf (j .d)) cs = overwritten (kept .rows-written) (omega (arith, long, rows-fit, j .rows-are)) in
+          let words-stored : bs′ ≡ overwrite (bodiesOf (j .d)) bs = overwritten (kept .words-written) (omega (arith, words-fit, j .words-are)) in
+          reads below
+          (ap (λ a. record { answer = a; contents = cs′; bodies = bs′ }) (same-answer is)
+          ∙ ap₂ (λ c b. record { answer = answer 0 (length file) (rowsOf (j .d)) (wordCount (j .d)); contents = c; bodies = b }) rows-stored words-stored
+          ∙ sym (by-room 0 (ap₂ (λ t u. orElse (unless t 14) (unless u 15)) enough-rows enough-words)))

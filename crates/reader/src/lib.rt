@@ -1,28 +1,33 @@
-// Reading a file into lent memory, in two passes: the first judges and counts, and stores nothing; the second stores, into memory now known to be
-// enough.
-use drawing::Answer;
-use fields::turn::value_at;
-use scanner::Scan;
-use scanner::file::scan_file;
-use store::body::store_settings_body;
-use store::objects::store_group;
-use store::words::store_word;
-ghost use Rattle.scanner.specs.declared.Scan.the-variants as Scan;
-ghost use Rattle.scanner.specs.FileScans.{ScannedFile};
-ghost use Rattle.promises.specs.Promises.{Reads};
-ghost use Rattle.reader.specs.Fills.{Readable, Filled};
+// Reading a file into lent memory, by two passes of one descent: the first, into no memory, judges and counts; the second stores, into memory that is
+// then known to be enough.
+pub mod file;
+pub mod head;
+pub mod objects;
 
-// The table of a file that holds a drawing, where there is room for it.
-fn store_file(file: &[u8], contents: &mut [u32], bodies: &mut [u32])
-    requires { ⌜ Readable (now file) (now contents) (now bodies) ⌝ }
-    ensures { λ r. ⌜ Filled (now (file .entry)) (now (contents .entry)) (now (bodies .entry)) (now (contents .exit)) (now (bodies .exit)) ⌝ }
+use crate::file::pass_file;
+use drawing::Answer;
+use drawing::numbers::ACCEPTED;
+use drawing::numbers::BODIES_TOO_SHORT;
+use drawing::numbers::CONTENTS_TOO_SHORT;
+use drawing::row::ROW_WIDTH;
+use ways::REFUSED;
+ghost use mathlib.Core.Path.{_≡_};
+ghost use Prim.Native.Nat.{_≤_};
+ghost use Rattle.drawing.specs.Limits.{lengthLimit};
+ghost use Rattle.drawing.specs.Answers.{answer};
+ghost use Rattle.promises.specs.Promises.{Reads};
+ghost use Rattle.reader.specs.ReadLaws.{Judged};
+
+fn counted(number: u32, at: usize, rows: usize, words: usize) -> Answer
+    requires { ⌜ (at ≤ lengthLimit) × (rows ≤ lengthLimit) × (words ≤ lengthLimit) ⌝ }
+    ensures { λ r. ⌜ r ≡ answer number at rows words ⌝ }
 {
-    let version = (value_at(file, 10, 6) - 0x31_002e_0030) as u32;
-    store_word(bodies, 0, version);
-    let settings = store_settings_body(file, version, 16, bodies, 1);
-    let at = settings.at;
-    let to = settings.to;
-    let outer = store_group(file, version, 15, at + 2, contents, 0, 0, bodies, to);
+    Answer {
+        number: number,
+        offset: at as u32,
+        rows: rows as u32,
+        words: words as u32,
+    }
 }
 
 // A file that was found good, with so many rows and words, is stored if there is room.
@@ -34,45 +39,28 @@ fn store_counted(
     rows: usize,
     words: usize,
 ) -> Answer
-    requires { ⌜ ScannedFile (now file) (Scan.Done at rows words) ⌝ }
+    requires { ⌜ Judged (now file) at rows words ⌝ }
     ensures { λ r. ⌜ Reads (now (file .entry)) (now (contents .entry)) (now (bodies .entry)) r (now (contents .exit)) (now (bodies .exit)) ⌝ }
 {
-    if contents.len() / 4 < rows {
-        return Answer {
-            number: 14,
-            offset: at as u32,
-            rows: rows as u32,
-            words: words as u32,
-        };
+    if contents.len() / ROW_WIDTH < rows {
+        return counted(CONTENTS_TOO_SHORT, at, rows, words);
     }
     if bodies.len() < words {
-        return Answer {
-            number: 15,
-            offset: at as u32,
-            rows: rows as u32,
-            words: words as u32,
-        };
+        return counted(BODIES_TOO_SHORT, at, rows, words);
     }
-    store_file(file, contents, bodies);
-    Answer {
-        number: 0,
-        offset: at as u32,
-        rows: rows as u32,
-        words: words as u32,
-    }
+    let _ = pass_file(&*file, contents, bodies);
+    counted(ACCEPTED, at, rows, words)
 }
 
 pub fn read(file: &[u8], contents: &mut [u32], bodies: &mut [u32]) -> Answer
     ensures { λ r. ⌜ Reads (now (file .entry)) (now (contents .entry)) (now (bodies .entry)) r (now (contents .exit)) (now (bodies .exit)) ⌝ }
 {
-    let scan = scan_file(file);
-    match scan {
-        Scan::Refused { number, at } => Answer {
-            number: number,
-            offset: at as u32,
-            rows: 0,
-            words: 0,
-        },
-        Scan::Done { at, rows, words } => store_counted(file, contents, bodies, at, rows, words),
+    let mut no_contents = [0u32; 0];
+    let mut no_bodies = [0u32; 0];
+    let judged = pass_file(&*file, &mut no_contents, &mut no_bodies);
+    let end = judged.at;
+    if REFUSED <= end {
+        return counted(judged.to as u32, end - REFUSED, 0, 0);
     }
+    store_counted(&*file, contents, bodies, end, judged.row, judged.to)
 }

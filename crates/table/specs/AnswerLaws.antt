@@ -14,18 +14,19 @@ use Rattle.drawing.specs.Limits.{lengthLimit}
 use Rattle.drawing.specs.Fields.{unless}
 use Rattle.drawing.specs.Drawing.{Drawing, fileOf}
 use Rattle.drawing.specs.TableDrawing.{drawingOfTable}
-use Rattle.drawing.specs.Answers.{answer, rowsOf, wordCount, overwrite, noTable, written}
+use Rattle.drawing.specs.Answers.{answer, rowsOf, wordCount, overwrite, tableRefused, written}
 use Rattle.drawing.specs.Computed.{checkFrom, writeFrom, writeOutput}
 use Rattle.promises.specs.Promises.{Checks, Writes}
 use Rattle.promises.specs.PromiseLaws.{checks, writes}
 use Rattle.laws.specs.CountLaws.{file-counts, table-limits}
 use Rattle.laws.specs.TableLaws.{drawing-of-table}
 use Rattle.laws.specs.TableFileLaws.{refused-table}
-use Rattle.table.specs.declared.Walked.{Walked}
+use Rattle.ways.specs.Passes.{refused}
+use Rattle.rows.specs.declared.walked.Walked.{Walked}
 use Rattle.table.specs.FileWalks.{Whole, TableComes, WalksTable}
 
 module _ (cs ws : List ℕ) (below : Below (2 ^ 32) ws) where
-  pub long-refused : (4 * lengthLimit < length cs) ⊎ (lengthLimit < length ws) → {r : Answer} → r ≡ noTable → Checks cs ws r
+  pub long-refused : (4 * lengthLimit < length cs) ⊎ (lengthLimit < length ws) → {r : Answer} → r ≡ tableRefused → Checks cs ws r
   long-refused long is = checks below (is ∙ sym (ap checkFrom (refused-table cs ws below long)))
 
   module _ {m m′ : List ℕ} {r : Walked} (walks : WalksTable cs ws m m′ r) where
@@ -35,22 +36,22 @@ module _ (cs ws : List ℕ) (below : Below (2 ^ 32) ws) where
       is : drawingOfTable cs ws ≡ some d
       whole : Whole d m m′ r
 
-    has-met : r .pass .number ≡ 0 → Met
+    has-met : r .at < refused → Met
     has-met on = by (drawingOfTable cs ws) refl (walks .comes)
       where
         by : (o : Option Drawing) → drawingOfTable cs ws ≡ o → TableComes m m′ r o → Met
-        by none is number = let z : _≡_ {A = ℕ} 0 16 = sym on ∙ number in absurd (omega arith)
+        by none is gone = absurd (omega (arith, on, gone))
         by (some d) is whole = record { d = d; is = is; whole = whole }
 
-    pub walk-refused : (r .pass .number ≡ 0 → ⊥) → {a : Answer} → a ≡ noTable → Checks cs ws a
+    pub walk-refused : refused ≤ r .at → {a : Answer} → a ≡ tableRefused → Checks cs ws a
     walk-refused gone {a} is = by (drawingOfTable cs ws) refl (walks .comes)
       where
         by : (o : Option Drawing) → drawingOfTable cs ws ≡ o → TableComes m m′ r o → Checks cs ws a
-        by none none-is number = checks below (is ∙ sym (ap checkFrom none-is))
-        by (some d) some-is whole = absurd (gone (whole .on))
+        by none none-is lost-here = checks below (is ∙ sym (ap checkFrom none-is))
+        by (some d) some-is whole = absurd (omega (arith, gone, whole .on))
 
-    module _ (on : r .pass .number ≡ 0) where
-      pub walk-small : (r .pass .to ≤ lengthLimit) × (r .row ≤ lengthLimit) × (r .pass .at ≤ lengthLimit)
+    module _ (on : r .at < refused) where
+      pub walk-small : (r .to ≤ lengthLimit) × (r .row ≤ lengthLimit) × (r .at ≤ lengthLimit)
       walk-small =
           let here = has-met on in
           let table = drawing-of-table cs ws below (here .d) .0 (here .is) in
@@ -58,11 +59,11 @@ module _ (cs ws : List ℕ) (below : Below (2 ^ 32) ws) where
           let short = table .acceptable .short in
           (omega (arith, here .whole .to-is), omega (arith, here .whole .rows-are, counts .0), omega (arith, here .whole .words-are, counts .1))
 
-      pub walk-checked : Checks cs ws (answer 0 (r .pass .to) (r .row) (r .pass .at))
+      pub walk-checked : Checks cs ws (answer 0 (r .to) (r .row) (r .at))
       walk-checked =
           let here = has-met on in
           checks below
-          (ap (λ n. answer 0 n (r .row) (r .pass .at)) (here .whole .to-is)
+          (ap (λ n. answer 0 n (r .row) (r .at)) (here .whole .to-is)
           ∙ ap₂ (λ n k. answer 0 (length (fileOf (here .d))) n k) (here .whole .rows-are) (here .whole .words-are)
           ∙ sym (ap checkFrom (here .is)))
 

@@ -1,8 +1,8 @@
 -- What the code that walks over tables is held to, and its laws.
 pub mod Walks
-pub mod WriteLaws
 pub mod RowLaws
 pub mod BodyLaws
+pub mod WalkingLaws
 pub mod LeafWalkLaws
 pub mod MemberWalkLaws
 pub mod OwnWalkLaws

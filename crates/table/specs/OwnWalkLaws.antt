@@ -1,97 +1,97 @@
--- The walk over a group's own body: its count, its end, and its row.
+-- The walk over a group's own body: its count, which was judged before, its end, and its row.
 use mathlib.Core.Path.{_≡_, refl, sym, ap, subst, _∙_}
-use mathlib.Core.Bool.{Bool, true, false}
-use Prim.Native.Nat.{ℕ, _-_, _≤_}
+use mathlib.Core.Bool.{Bool, true, false, false≢true}
+use Prim.Native.Nat.{ℕ, _+_, _-_, _*_, _/_, _^_, _<_, _≤_}
 use native.Mathlib.Omega.{arith}
 use mathlib.Core.List.{List}
 use lib.Dec.{eqb}
-use lib.ListN.{drop}
-use borrow.Author.Tests.{eq-eqb, ne-eqb}
-use Rattle.format.specs.Codec.{found, refused, andThen}
+use lib.IntN.{pos}
+use lib.ListN.{length, drop, getD}
+use lib.Signed.{leZ}
+use mir.Syntax.{w32}
+use mir.Val.{toZ}
+use borrow.Author.Tests.{eq-eqb, eqb-true, eqb-false}
+use Rattle.format.specs.Digits.{Below}
+use Rattle.format.specs.LeafLaws.{field-one}
+use Rattle.format.specs.LiteralLaws.{read-value}
+use Rattle.format.specs.Kind.{size}
+use Rattle.format.specs.Codec.{Outcome, found, refused, andThen}
 use Rattle.format.specs.Layout.{field}
 use Rattle.format.specs.Parse.{parse}
-use Rattle.format.specs.ParsingLaws.{parse-pair}
+use Rattle.format.specs.ParsingLaws.{parse-field, parse-pair}
 use Rattle.drawing.specs.Reading as Reading
-use Rattle.drawing.specs.Fields.{memberCount}
-use Rattle.drawing.specs.String.{String, equal}
+use Rattle.drawing.specs.Fields.{memberCount, unless}
+use Rattle.drawing.specs.String.{String}
 use Rattle.drawing.specs.LeafLayout.{objectEnd}
-use Rattle.drawing.specs.Table as Table
-use Rattle.drawing.specs.Table.{groupKind, groupOwn}
-use Rattle.drawing.specs.TableDrawing.{Walk, met, lost, onward, provided}
-use Rattle.laws.specs.ObjectBytes.{bytesOf}
-use Rattle.passes.specs.declared.Pass.{Pass}
-use Rattle.passes.specs.declared.Took.{Took}
-use Rattle.table.specs.Walks.{rowAt, placeAt, Stands, Writes, walkOwn, WalksOwn}
-use Rattle.table.specs.BodyLaws.{Found, Unfound, walk-body, lose-body}
-use Rattle.table.specs.LeafWalkLaws.{walks-met}
+use Rattle.drawing.specs.Table.{groupKind, groupOwn, startIn}
+use Rattle.drawing.specs.TableDrawing.{Place, Walk, met, lost, onward, provided, bodyFrom}
+use Rattle.ways.specs.declared.Pass.{Pass}
+use Rattle.ways.specs.Passes as R
+use Rattle.ways.specs.Carries.{Laid}
+use Rattle.from_table.specs.Way.{way}
+use Rattle.rows.specs.declared.walked.Walked.{Walked}
+use Rattle.rows.specs.Rows.{rowAt}
+use Rattle.rows.specs.RowLaws.{other-start}
+use Rattle.table.specs.Walks.{placeAt, Stands, Counted, Counts, Rowed, membersIn, walkOwn, WalksOwn}
+use Rattle.table.specs.WalkingLaws.{walks-lost, body-walks}
 
-module _ (v parent n : ℕ) (cs ws : List ℕ) (row next : ℕ) (p : Pass) where
+-- ---- the count
+
+-- Whether one stands here.
+pub count-here : (ws : List ℕ) (start : ℕ) {r : Bool} → start < length ws → getD ws start 0 < 2 ^ 32 → r ≡ leZ (pos 1) (toZ w32 (getD ws start 0)) → Counts ws start r
+count-here ws start inside small is =
+    record {
+      yes = λ t. record { inside = inside; allowed = record { fits = small; faultless = ap (λ b. unless b 8) (sym is ∙ t) } };
+      no = λ f counted. let z : _≡_ {A = ℕ} 8 0 = sym (ap (λ b. unless b 8) (sym is ∙ f)) ∙ counted .allowed .faultless in omega arith;
+    }
+
+pub no-count-here : (ws : List ℕ) (start : ℕ) → length ws ≤ start → Counts ws start false
+no-count-here ws start ended = record { yes = λ t. absurd (false≢true t); no = λ f counted. omega (arith, ended, counted .inside) }
+
+-- Where one stands it is read.
+count-parse : (ws : List ℕ) (at : ℕ) → Counted ws at → parse Reading.words (field memberCount) (drop at ws) ≡ found (getD ws at 0) (drop (at + 1) ws)
+count-parse ws at counted =
+    parse-field Reading.words memberCount (drop at ws)
+    ∙ read-value (2 ^ 32) (λ s. (size s + 3) / 4) 16 16 ws at memberCount (getD ws at 0) (omega (arith, counted .inside)) (sym (field-one (2 ^ 32) ws at (omega (arith, counted .inside)))) (counted .allowed)
+
+-- ---- the body
+
+module _ (v parent : ℕ) (cs ws : List ℕ) (row next at : ℕ) (there : 4 * row + 4 ≤ length cs) where
   abbrev walkHere : Walk String
-  walkHere = walkOwn v parent n (rowAt cs row) (placeAt cs ws next (p .at))
+  walkHere = walkOwn v parent (membersIn cs ws row) (rowAt cs row) (placeAt cs ws next at)
 
-  abbrev behindBody : Walk (ℕ × String) → Walk String
-  behindBody w = onward w (λ own r. provided (eqb (own .0) n) (met (own .1) r))
+  abbrev then : ℕ × String → Place → Walk String
+  then own q = provided (eqb (own .0) (membersIn cs ws row)) (met (own .1) q)
 
-  own-parse : parse Reading.words (groupOwn v) (drop (p .at) ws)
-      ≡ andThen (parse Reading.words (field memberCount) (drop (p .at) ws)) (λ n rest. andThen (parse Reading.words (objectEnd v) rest) (λ d rest₂. found (n, d) rest₂))
-  own-parse = parse-pair Reading.words (field memberCount) (λ n. objectEnd v) (drop (p .at) ws)
+  -- The row tells of another place.
+  pub own-elsewhere : (startIn cs row ≡ at → ⊥) → walkHere ≡ lost
+  own-elsewhere other = by (parse Reading.words (groupOwn v) (drop at ws))
+    where
+      by : (o : Outcome (ℕ × String)) → onward (bodyFrom groupKind parent (rowAt cs row) (placeAt cs ws next at) o) then ≡ lost
+      by (refused n place) = refl
+      by (found own rest) =
+          let used = length (drop at ws) - length rest in
+          ap (λ t. onward (provided t (met own (record { row = next; contents = placeAt cs ws next at .contents; at = at + used; bodies = rest }))) then) (other-start cs row there groupKind parent at used other)
 
-  own-lost : {k : ℕ} {place : List ℕ} → parse Reading.words (groupOwn v) (drop (p .at) ws) ≡ refused k place → walkHere ≡ lost
-  own-lost e = ap behindBody (lose-body (groupOwn v) cs ws next groupKind parent (rowAt cs row) (p .at) e)
+  -- There is no word more, where there should be the count.
+  pub own-ended : {m : List ℕ} {to : ℕ} {r : Walked} → Counted ws (startIn cs row) → length ws ≤ at → R.refused ≤ r .at → WalksOwn v parent row next cs ws m m at to r
+  own-ended counted ended gone = walks-lost (own-elsewhere (λ same. omega (arith, same, ended, counted .inside))) gone refl
 
-  pub count-unfound : {k : ℕ} → Unfound (field memberCount) ws p k → walkHere ≡ lost
-  count-unfound none = own-lost (own-parse ∙ ap (λ o. andThen o (λ n rest. andThen (parse Reading.words (objectEnd v) rest) (λ d rest₂. found (n, d) rest₂))) (none .parsed))
+  own-parse : Counted ws (startIn cs row) → startIn cs row ≡ at
+      → parse Reading.words (groupOwn v) (drop at ws) ≡ andThen (parse Reading.words (objectEnd v) (drop (at + 1) ws)) (λ d rest. found (membersIn cs ws row, d) rest)
+  own-parse counted same =
+      parse-pair Reading.words (field memberCount) (λ n. objectEnd v) (drop at ws)
+      ∙ ap (λ o. andThen o (λ n rest. andThen (parse Reading.words (objectEnd v) rest) (λ d rest₂. found (n, d) rest₂))) (count-parse ws at (subst (Counted ws) same counted))
+      ∙ ap (λ n. andThen (parse Reading.words (objectEnd v) (drop (at + 1) ws)) (λ d rest. found (getD ws n 0, d) rest)) (sym same)
 
-  module _ {m₁ m₁′ : List ℕ} {q : Took} (counted : Found (field memberCount) ws m₁ m₁′ p (q .pass) (q .value)) (p₂ : Pass) (at-is : p₂ .at ≡ q .pass .at) where
-    behind-count : parse Reading.words (groupOwn v) (drop (p .at) ws) ≡ andThen (parse Reading.words (objectEnd v) (drop (p₂ .at) ws)) (λ d rest₂. found (q .value, d) rest₂)
-    behind-count =
-        own-parse
-        ∙ ap (λ o. andThen o (λ n rest. andThen (parse Reading.words (objectEnd v) rest) (λ d rest₂. found (n, d) rest₂))) (counted .parsed)
-        ∙ ap (λ k. andThen (parse Reading.words (objectEnd v) (drop k ws)) (λ d rest₂. found (q .value, d) rest₂)) (sym at-is)
-
-    pub end-unfound : {k : ℕ} → Unfound (objectEnd v) ws p₂ k → walkHere ≡ lost
-    end-unfound none = own-lost (behind-count ∙ ap (λ o. andThen o (λ d rest₂. found (q .value, d) rest₂)) (none .parsed))
-
-    module _ {m m′ : List ℕ} {e : Pass} {d : String} (ended : Found (objectEnd v) ws m m′ p₂ e d) where
-      pub end-forward : p .at ≤ e .at
-      end-forward = omega (arith, ended .at-is, at-is, counted .at-is)
-
-      abbrev pub sameRow : Bool
-      sameRow = equal (rowAt cs row) (Table.row groupKind parent (p .at) (e .at - p .at))
-
-      by-row : walkHere ≡ behindBody (provided sameRow (met (q .value, d) (placeAt cs ws next (e .at))))
-      by-row =
-          ap behindBody
-          (walk-body (groupOwn v) cs ws next groupKind parent (rowAt cs row) (p .at) (e .at) end-forward (ended .inside)
-          (behind-count ∙ ap (λ o. andThen o (λ d rest₂. found (q .value, d) rest₂)) (ended .parsed)))
-
-      pub wrong-row : sameRow ≡ false → walkHere ≡ lost
-      wrong-row is = by-row ∙ ap (λ t. behindBody (provided t (met (q .value, d) (placeAt cs ws next (e .at))))) is
-
-      by-count : sameRow ≡ true → walkHere ≡ provided (eqb (q .value) n) (met d (placeAt cs ws next (e .at)))
-      by-count is = by-row ∙ ap (λ t. behindBody (provided t (met (q .value, d) (placeAt cs ws next (e .at))))) is
-
-      pub wrong-count : (q .value ≡ n → ⊥) → walkHere ≡ lost
-      wrong-count other = by sameRow refl
-        where
-          by : (t : Bool) → sameRow ≡ t → walkHere ≡ lost
-          by false is = wrong-row is
-          by true is = by-count is ∙ ap (λ t. provided t (met d (placeAt cs ws next (e .at)))) (ne-eqb (q .value) n other)
-
-      pub own-right : Stands cs ws next p → q .value ≡ n → p₂ .to ≡ p .to → sameRow ≡ true → e .number ≡ 0 → WalksOwn v parent n row next cs ws m m′ p (record { row = next; pass = e })
-      own-right stands same-count to-is right on =
-          walks-met (by-count right ∙ ap (λ t. provided t (met d (placeAt cs ws next (e .at)))) (eq-eqb (q .value) n same-count))
-          (record {
-            place-is = refl;
-            to-is = omega (arith, ended .to-is, to-is);
-            written = subst (λ to. Writes to (bytesOf (objectEnd v) d) m m′) to-is (ended .written);
-            next =
-                record {
-                  going = on;
-                  short = stands .short;
-                  inside = ended .inside;
-                  short-rows = stands .short-rows;
-                  rows-inside = stands .rows-inside;
-                  few = omega (arith, ended .to-is, to-is, ended .few, ended .at-is, at-is, counted .at-is, stands .few);
-                };
-          })
+  pub own-walks : {m m′ : List ℕ} {to : ℕ} {b : Pass} {r : Walked} → Below (2 ^ 32) ws → Stands cs ws next at to → Counted ws (startIn cs row) → at < length ws
+      → Laid (objectEnd v .format) way ws m m′ (at + 1) to (b .at) (b .to) → Rowed (rowAt cs row) groupKind parent at next b r → WalksOwn v parent row next cs ws m m′ at to r
+  own-walks {m} {m′} {to} {b} {r} below stands counted more laid rowed = by (eqb (startIn cs row) at) refl
+    where
+      by : (t : Bool) → eqb (startIn cs row) at ≡ t → WalksOwn v parent row next cs ws m m′ at to r
+      by true e =
+          body-walks (objectEnd v) (groupOwn v) (λ d. (membersIn cs ws row, d)) then (λ d. d) cs ws (rowAt cs row) groupKind parent next at (at + 1) below (omega arith) (omega (arith, more))
+          (own-parse counted (eqb-true (startIn cs row) at e)) (λ d q. ap (λ t. provided t (met d q)) (eq-eqb (membersIn cs ws row) (membersIn cs ws row) refl)) (λ d. refl) stands laid rowed
+      by false e =
+          let other : startIn cs row ≡ at → ⊥ = eqb-false (startIn cs row) at e in
+          walks-lost (own-elsewhere other) (rowed .wrong (other-start cs row there groupKind parent at (b .at - at) other)) (laid .carried .same-length)

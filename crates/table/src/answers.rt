@@ -1,15 +1,21 @@
 // Checking any two runs of words, and writing the file of a table.
 use crate::file::walk_table;
 use drawing::Answer;
+use drawing::limits::LENGTH_LIMIT;
+use drawing::numbers::ACCEPTED;
+use drawing::numbers::NO_TABLE;
+use drawing::numbers::OUTPUT_TOO_SHORT;
+use drawing::row::ROW_WIDTH;
+use ways::REFUSED;
 ghost use mathlib.Core.Path.{_≡_};
-ghost use Rattle.drawing.specs.Answers.{noTable};
+ghost use Rattle.drawing.specs.Answers.{tableRefused};
 ghost use Rattle.promises.specs.Promises.{Checks, Writes};
 
 fn no_table() -> Answer
-    ensures { λ r. ⌜ r ≡ noTable ⌝ }
+    ensures { λ r. ⌜ r ≡ tableRefused ⌝ }
 {
     Answer {
-        number: 16,
+        number: NO_TABLE,
         offset: 0,
         rows: 0,
         words: 0,
@@ -20,23 +26,22 @@ fn no_table() -> Answer
 pub fn check(contents: &[u32], words: &[u32]) -> Answer
     ensures { λ r. ⌜ Checks (now (contents .entry)) (now (words .entry)) r ⌝ }
 {
-    if 262140 < contents.len() {
+    if ROW_WIDTH * LENGTH_LIMIT < contents.len() {
         return no_table();
     }
-    if 65535 < words.len() {
+    if LENGTH_LIMIT < words.len() {
         return no_table();
     }
     let mut no_file = [0u8; 0];
-    let walked = walk_table(contents, words, &mut no_file);
-    let behind = walked.pass;
-    if behind.number != 0 {
+    let walked = walk_table(&*contents, &*words, &mut no_file);
+    if REFUSED <= walked.at {
         return no_table();
     }
     Answer {
-        number: 0,
-        offset: behind.to as u32,
+        number: ACCEPTED,
+        offset: walked.to as u32,
         rows: walked.row as u32,
-        words: behind.at as u32,
+        words: walked.at as u32,
     }
 }
 
@@ -44,19 +49,19 @@ pub fn check(contents: &[u32], words: &[u32]) -> Answer
 pub fn write(contents: &[u32], words: &[u32], file: &mut [u8]) -> Answer
     ensures { λ r. ⌜ Writes (now (contents .entry)) (now (words .entry)) (now (file .entry)) r (now (file .exit)) ⌝ }
 {
-    let checked = check(contents, words);
-    if checked.number != 0 {
+    let checked = check(&*contents, &*words);
+    if checked.number != ACCEPTED {
         return checked;
     }
     let needed = checked.offset;
     if file.len() < needed as usize {
         return Answer {
-            number: 17,
+            number: OUTPUT_TOO_SHORT,
             offset: needed,
             rows: 0,
             words: 0,
         };
     }
-    let _ = walk_table(contents, words, file);
+    let _ = walk_table(&*contents, &*words, file);
     checked
 }

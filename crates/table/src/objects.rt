@@ -1,30 +1,83 @@
 // Objects of a table: an object that is a group calls the group's walk, which calls the object's back, and the depth left falls at each group.
-use crate::Walked;
-use crate::bodies::count_word;
-use crate::bodies::end_words;
-use crate::bodies::leaf_words;
-use crate::rows::is_row;
-use crate::rows::letter_of;
-use crate::rows::word_from;
-use passes::Pass;
-use passes::target::write_value;
+use drawing::letters::GROUP;
+use drawing::limits::LEAST_MEMBERS;
+use drawing::numbers::NO_TABLE;
+use drawing::row::BITMAP_KIND;
+use drawing::row::GROUP_KIND;
+use drawing::row::PATH_KIND;
+use fields::ranges::word_reaches;
+use from_table::prims::put;
+use from_table_objects::end::group_end;
+use from_table_objects::leaf::leaf_body;
+use rows::look::has_row;
+use rows::look::is_row;
+use rows::look::kind_in;
+use rows::look::letter_of;
+use rows::look::start_in;
+use rows::walked::Walked;
+use ways::Pass;
+use ways::REFUSED;
 ghost use mathlib.Core.Path.{_≡_};
-ghost use Prim.Native.Nat.{_+_, _*_, _≤_};
+ghost use mathlib.Core.Bool.{_&&_};
+ghost use Prim.Native.Nat.{_+_, _*_, _^_, _<_, _≤_};
+ghost use lib.Dec.{leb};
 ghost use lib.ListN.{length};
-ghost use Rattle.table.specs.Walks.{Stands, WalksLeaf, WalksObject, WalksOwn, WalksGroup, WalksMany};
+ghost use Rattle.drawing.specs.Table.{rowWidth, startIn};
+ghost use Rattle.rows.specs.Rows.{rowAt};
+ghost use Rattle.ways.specs.Passes.{refused};
+ghost use Rattle.ways.specs.Written.{Writes};
+ghost use Rattle.table.specs.Walks.{Stands, Counted, Counts, Rowed, openingBytes, WalksLeaf, WalksObject, WalksOwn, WalksGroup, WalksMany};
+
+// a group's letter, and the count of its members
+const OPENING_BYTES: usize = 6;
 
 // Everything that is wrong with a table is 16.
-pub fn lost(row: usize) -> Walked
-    ensures { λ r. ⌜ r .pass .number ≡ 16 ⌝ }
+pub fn no_table() -> Walked
+    ensures { λ r. ⌜ refused ≤ r .at ⌝ }
 {
     Walked {
-        row: row,
-        pass: Pass {
-            number: 16,
-            at: 0,
-            to: 0,
-        },
+        row: 0,
+        at: REFUSED,
+        to: NO_TABLE as usize,
     }
+}
+
+fn is_leaf(kind: u32) -> bool
+    ensures { λ r. ⌜ r ≡ (leb 2 kind && leb kind 4) ⌝ }
+{
+    if kind < PATH_KIND {
+        return false;
+    }
+    kind <= BITMAP_KIND
+}
+
+// What the walk has come to behind an object's body, if its row says just that.
+fn rowed(
+    contents: &[u32],
+    row: usize,
+    kind: u32,
+    parent: u32,
+    start: usize,
+    behind: Pass,
+    next: usize,
+) -> Walked
+    requires { ⌜ rowWidth * row + rowWidth ≤ length (now contents) ⌝ }
+    requires { ⌜ (behind .at < refused → start ≤ behind .at) ⌝ }
+    ensures { λ r. ⌜ Rowed (rowAt (now (contents .entry)) row) kind parent start next behind r ⌝ }
+{
+    let at = behind.at;
+    let to = behind.to;
+    if REFUSED <= at {
+        return no_table();
+    }
+    if is_row(&*contents, row, kind, parent, start, at - start) {
+        return Walked {
+            row: next,
+            at: at,
+            to: to,
+        };
+    }
+    no_table()
 }
 
 // A leaf, of which the row is there.
@@ -32,48 +85,24 @@ fn leaf(
     contents: &[u32],
     words: &[u32],
     out: &mut [u8],
-    p: Pass,
+    at: usize,
+    to: usize,
     row: usize,
     version: u32,
     parent: u32,
 ) -> Walked
-    requires { ⌜ Stands (now contents) (now words) row p ⌝ }
-    requires { ⌜ 4 * row + 4 ≤ length (now contents) ⌝ }
-    ensures { λ r. ⌜ WalksLeaf version parent row (now (contents .entry)) (now (words .entry)) (now (out .entry)) (now (out .exit)) p r ⌝ }
+    requires { ⌜ Stands (now contents) (now words) row at to ⌝ }
+    requires { ⌜ rowWidth * row + rowWidth ≤ length (now contents) ⌝ }
+    ensures { λ r. ⌜ WalksLeaf version parent row (now (contents .entry)) (now (words .entry)) (now (out .entry)) (now (out .exit)) at to r ⌝ }
 {
-    let kind = contents[4 * row];
-    if kind < 2 {
-        return lost(row);
+    let kind = kind_in(&*contents, row);
+    if is_leaf(kind) {
+        let letter = letter_of(kind);
+        put(out, to, 2, letter);
+        let body = leaf_body(&*words, out, at, to + 2, version, letter);
+        return rowed(&*contents, row, kind, parent, at, body, row + 1);
     }
-    if 4 < kind {
-        return lost(row);
-    }
-    let at = p.at;
-    let to = p.to;
-    let letter = letter_of(kind);
-    write_value(out, to, 2, letter);
-    let body = leaf_words(
-        words,
-        out,
-        Pass {
-            number: 0,
-            at: at,
-            to: to + 2,
-        },
-        version,
-        letter,
-    );
-    if body.number != 0 {
-        return lost(row);
-    }
-    let end = body.at;
-    if is_row(contents, row, kind, parent, at, end - at) {
-        return Walked {
-            row: row + 1,
-            pass: body,
-        };
-    }
-    lost(row)
+    no_table()
 }
 
 // An object in which groups nest at most so deep.
@@ -81,129 +110,129 @@ pub fn object(
     contents: &[u32],
     words: &[u32],
     out: &mut [u8],
-    p: Pass,
+    at: usize,
+    to: usize,
     row: usize,
     version: u32,
     deep: u32,
     parent: u32,
 ) -> Walked
-    requires { ⌜ Stands (now contents) (now words) row p ⌝ }
-    ensures { λ r. ⌜ WalksObject version deep parent row (now (contents .entry)) (now (words .entry)) (now (out .entry)) (now (out .exit)) p r ⌝ }
+    requires { ⌜ Stands (now contents) (now words) row at to ⌝ }
+    ensures { λ r. ⌜ WalksObject version deep parent row (now (contents .entry)) (now (words .entry)) (now (out .entry)) (now (out .exit)) at to r ⌝ }
 {
-    if contents.len() < 4 * row + 4 {
-        return lost(row);
+    if has_row(&*contents, row) {
+        if deep == 0 {
+            return leaf(&*contents, &*words, out, at, to, row, version, parent);
+        }
+        if kind_in(&*contents, row) == GROUP_KIND {
+            return group(
+                &*contents,
+                &*words,
+                out,
+                at,
+                to,
+                row,
+                version,
+                deep - 1,
+                parent,
+            );
+        }
+        return leaf(&*contents, &*words, out, at, to, row, version, parent);
     }
-    if deep == 0 {
-        return leaf(contents, words, out, p, row, version, parent);
-    }
-    if contents[4 * row] == 1 {
-        return group(contents, words, out, p, row, version, deep - 1, parent);
-    }
-    leaf(contents, words, out, p, row, version, parent)
+    no_table()
 }
 
-// A group's own body, behind its members, which are this many.
+// The count of a group's members is the word at which its row says that its body begins, if that is one.
+fn has_count(words: &[u32], start: usize) -> bool
+    ensures { λ r. ⌜ Counts (now (words .entry)) start r ⌝ }
+{
+    if start < words.len() {
+        return word_reaches(LEAST_MEMBERS, words[start]);
+    }
+    false
+}
+
+// A group's letter, and the count of its members.
+fn put_opening(out: &mut [u8], to: usize, count: u32)
+    requires { ⌜ to < 2 ^ 40 ⌝ }
+    ensures { λ r. ⌜ Writes to (openingBytes count) (now (out .entry)) (now (out .exit)) ⌝ }
+{
+    put(out, to, 2, GROUP);
+    put(out, to + 2, 4, count as u64);
+}
+
+// A group's own body, behind its members: it begins with their count, which was judged where its row says that it stands.
 fn own_body(
     contents: &[u32],
     words: &[u32],
     out: &mut [u8],
-    p: Pass,
+    at: usize,
+    to: usize,
     next: usize,
     row: usize,
     version: u32,
     parent: u32,
-    members: u32,
 ) -> Walked
-    requires { ⌜ Stands (now contents) (now words) next p ⌝ }
-    requires { ⌜ 4 * row + 4 ≤ length (now contents) ⌝ }
-    ensures { λ r. ⌜ WalksOwn version parent members row next (now (contents .entry)) (now (words .entry)) (now (out .entry)) (now (out .exit)) p r ⌝ }
+    requires { ⌜ Stands (now contents) (now words) next at to ⌝ }
+    requires { ⌜ rowWidth * row + rowWidth ≤ length (now contents) ⌝ }
+    requires { ⌜ Counted (now words) (startIn (now contents) row) ⌝ }
+    ensures { λ r. ⌜ WalksOwn version parent row next (now (contents .entry)) (now (words .entry)) (now (out .entry)) (now (out .exit)) at to r ⌝ }
 {
-    let at = p.at;
-    let to = p.to;
-    let counted = count_word(words, p);
-    let value = counted.value;
-    let judged = counted.pass;
-    if judged.number != 0 {
-        return lost(row);
+    if at < words.len() {
+        let ended = group_end(&*words, out, at + 1, to, version);
+        return rowed(&*contents, row, GROUP_KIND, parent, at, ended, next);
     }
-    let ended = end_words(
-        words,
-        out,
-        Pass {
-            number: 0,
-            at: judged.at,
-            to: to,
-        },
-        version,
-    );
-    if ended.number != 0 {
-        return lost(row);
-    }
-    if value != members as u64 {
-        return lost(row);
-    }
-    let end = ended.at;
-    if is_row(contents, row, 1, parent, at, end - at) {
-        return Walked {
-            row: next,
-            pass: ended,
-        };
-    }
-    lost(row)
+    no_table()
 }
 
-// A group, of which the row is there. Its members are as many as the word says at which its body begins, and that word is judged when the walk gets
-// there.
+// A group, of which the row is there.
 pub fn group(
     contents: &[u32],
     words: &[u32],
     out: &mut [u8],
-    p: Pass,
+    at: usize,
+    to: usize,
     row: usize,
     version: u32,
     deep: u32,
     parent: u32,
 ) -> Walked
-    requires { ⌜ Stands (now contents) (now words) row p ⌝ }
-    requires { ⌜ 4 * row + 4 ≤ length (now contents) ⌝ }
-    ensures { λ r. ⌜ WalksGroup version deep parent row (now (contents .entry)) (now (words .entry)) (now (out .entry)) (now (out .exit)) p r ⌝ }
+    requires { ⌜ Stands (now contents) (now words) row at to ⌝ }
+    requires { ⌜ rowWidth * row + rowWidth ≤ length (now contents) ⌝ }
+    ensures { λ r. ⌜ WalksGroup version deep parent row (now (contents .entry)) (now (words .entry)) (now (out .entry)) (now (out .exit)) at to r ⌝ }
 {
-    let at = p.at;
-    let to = p.to;
-    let start = contents[4 * row + 2];
-    let members = word_from(words, at, start as usize);
-    write_value(out, to, 2, 71);
-    write_value(out, to + 2, 4, members as u64);
-    let inner = all(
-        contents,
-        words,
-        out,
-        Pass {
-            number: 0,
-            at: at,
-            to: to + 6,
-        },
-        row + 1,
-        version,
-        deep,
-        row as u32,
-        members,
-    );
-    let behind = inner.pass;
-    if behind.number != 0 {
-        return lost(row);
+    let start = start_in(&*contents, row);
+    if has_count(&*words, start) {
+        let count = words[start];
+        put_opening(out, to, count);
+        let inner = all(
+            &*contents,
+            &*words,
+            out,
+            at,
+            to + OPENING_BYTES,
+            row + 1,
+            version,
+            deep,
+            row as u32,
+            count,
+        );
+        if REFUSED <= inner.at {
+            return inner;
+        }
+        return own_body(
+            &*contents,
+            &*words,
+            out,
+            inner.at,
+            inner.to,
+            inner.row,
+            row,
+            version,
+            parent,
+        );
     }
-    own_body(
-        contents,
-        words,
-        out,
-        behind,
-        inner.row,
-        row,
-        version,
-        parent,
-        members,
-    )
+    no_table()
 }
 
 // So many objects, one after another.
@@ -211,31 +240,39 @@ pub fn all(
     contents: &[u32],
     words: &[u32],
     out: &mut [u8],
-    p: Pass,
+    at: usize,
+    to: usize,
     first: usize,
     version: u32,
     deep: u32,
     parent: u32,
     count: u32,
 ) -> Walked
-    requires { ⌜ Stands (now contents) (now words) first p ⌝ }
-    ensures { λ r. ⌜ WalksMany version deep parent count first (now (contents .entry)) (now (words .entry)) (now (out .entry)) (now (out .exit)) p r ⌝ }
+    requires { ⌜ Stands (now contents) (now words) first at to ⌝ }
+    ensures { λ r. ⌜ WalksMany version deep parent count first (now (contents .entry)) (now (words .entry)) (now (out .entry)) (now (out .exit)) at to r ⌝ }
 {
     let mut left = count;
-    let mut row = first;
-    let mut behind = p;
+    let mut reached = Walked {
+        row: first,
+        at: at,
+        to: to,
+    };
     while 0 < left {
-        let walked = object(contents, words, out, behind, row, version, deep, parent);
-        let next = walked.pass;
-        if next.number != 0 {
-            return walked;
+        reached = object(
+            &*contents,
+            &*words,
+            out,
+            reached.at,
+            reached.to,
+            reached.row,
+            version,
+            deep,
+            parent,
+        );
+        if REFUSED <= reached.at {
+            return reached;
         }
-        row = walked.row;
-        behind = next;
         left = left - 1;
     }
-    Walked {
-        row: row,
-        pass: behind,
-    }
+    reached
 }

@@ -6,19 +6,19 @@ use lib.ListN.{length}
 use Rattle.format.specs.Kind.{Kind}
 use Rattle.format.specs.Script.{Script}
 use Rattle.format.specs.Format.{Format, one, script}
-use Rattle.ways.specs.declared.Took.{Took}
+use Rattle.ways.specs.declared.FieldPass.{FieldPass}
 use Rattle.ways.specs.Way.{Way}
 use Rattle.ways.specs.Passes.{behind, Ready}
 
 -- From one place, and one memory, to another: whatever comes behind them, these fields then come to what those do now.
-pub record Came (these those : Script (Unit {0}) → Script (Unit {0})) (W : Way) (us m m′ : List ℕ) (at to at′ to′ : ℕ) : Type 0 where
+pub record Progress (these those : Script (Unit {0}) → Script (Unit {0})) (W : Way) (us m m′ : List ℕ) (at to at′ to′ : ℕ) : Type 0 where
   pub runs : (K : Script (Unit {0})) → behind W us m at to (these K) ≡ behind W us m′ at′ to′ (those K)
   pub ready : Ready (length us) at′ to′
   pub same-length : length m′ ≡ length m
 
 -- Over all of these fields.
 abbrev pub Carried : (Script (Unit {0}) → Script (Unit {0})) → Way → (us m m′ : List ℕ) → (at to at′ to′ : ℕ) → Type 0
-Carried these W us m m′ at to at′ to′ = Came these (λ K. K) W us m m′ at to at′ to′
+Carried these W us m m′ at to at′ to′ = Progress these (λ K. K) W us m m′ at to at′ to′
 
 -- Over the fields of a layout.
 pub record Laid {A : Type 0} {P : A → Type 0} (f : Format A P) (W : Way) (us m m′ : List ℕ) (at to at′ to′ : ℕ) : Type 0 where
@@ -31,5 +31,5 @@ pub record Valued {A : Type 0} {P : A → Type 0} (f : Format A P) (a : A) (W : 
   pub same-length : length m′ ≡ length m
 
 -- Over one field of a kind.
-abbrev pub Asked : Kind → Way → (us m m′ : List ℕ) → (at to : ℕ) → Took → Type 0
+abbrev pub Asked : Kind → Way → (us m m′ : List ℕ) → (at to : ℕ) → FieldPass → Type 0
 Asked k W us m m′ at to q = Valued (one k) (q .value) W us m m′ at to (q .pass .at) (q .pass .to)

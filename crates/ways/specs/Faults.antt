@@ -13,7 +13,7 @@ use Rattle.format.specs.LiteralLaws.{faultOf}
 use Rattle.drawing.specs.Fields as F
 use Rattle.drawing.specs.Fields.{unless, inRange}
 use Rattle.drawing.specs.FieldLaws.{in-range}
-use Rattle.ways.specs.Way.{Way, Exact, Blind, wide}
+use Rattle.ways.specs.Way.{Way, Exact, Blind, sourceUnits}
 
 -- This number tells what is wrong with a value in a field of this kind, 0 for nothing: refused with it, a pass comes to what its script comes to.
 pub record Judges (W : Way) (k : Kind) (v n : ℕ) : Type 0 where
@@ -55,7 +55,7 @@ module _ (k : Kind) (v : ℕ) where
       by false h = rw h positive
 
   -- The number that a file has for it, or some number where a file's field could not be it.
-  pub judged : (W : Way) {n : ℕ} → v < W .source .base ^ wide W (size (k .shape)) → (v < 256 ^ size (k .shape) → n ≡ faultOf 5 k v) → (256 ^ size (k .shape) ≤ v → 0 < n) → Judges W k v n
+  pub judged : (W : Way) {n : ℕ} → v < W .source .base ^ sourceUnits W (size (k .shape)) → (v < 256 ^ size (k .shape) → n ≡ faultOf 5 k v) → (256 ^ size (k .shape) ≤ v → 0 < n) → Judges W k v n
   judged W {n} small is over =
       record {
         fine = λ e. by-size e (ltb v (256 ^ size (k .shape))) refl;
@@ -75,7 +75,7 @@ module _ (k : Kind) (v : ℕ) where
       by (inr blind) = blind .one-number (faultOf (W .source .meaningless) k v) n
 
   -- A value of its shape, with the kind's own fault.
-  pub own-fault : (W : Way) {n : ℕ} → v < values (k .shape) → v < W .source .base ^ wide W (size (k .shape)) → n ≡ k .fault v → Judges W k v n
+  pub own-fault : (W : Way) {n : ℕ} → v < values (k .shape) → v < W .source .base ^ sourceUnits W (size (k .shape)) → n ≡ k .fault v → Judges W k v n
   own-fault W {n} fits small is =
       let all = values-hold (k .shape) in
       let same : faultOf 5 k v ≡ k .fault v = ap (λ b. cond b (k .fault v) 5) (lt-ltb v (values (k .shape)) fits) in
@@ -94,7 +94,7 @@ pub record Ranged (k : Kind) (bytes low high fault : ℕ) : Type 0 where
   pub within : (v : ℕ) → low ≤ v → v ≤ high → Allowed k v
   pub outside : (v : ℕ) → v < 256 ^ bytes → (v < low) ⊎ (high < v) → faultOf 5 k v ≡ fault
 
-pub range-fault : (W : Way) (k : Kind) {bytes low high fault v n : ℕ} → Ranged k bytes low high fault → high < 256 ^ bytes → v < W .source .base ^ wide W bytes → Between low high fault v n → Judges W k v n
+pub range-fault : (W : Way) (k : Kind) {bytes low high fault v n : ℕ} → Ranged k bytes low high fault → high < 256 ^ bytes → v < W .source .base ^ sourceUnits W bytes → Between low high fault v n → Judges W k v n
 range-fault W k {bytes} {low} {high} {fault} {v} {n} ranged held small between =
     judged k v W (rw (ranged .sized) small) (λ h. by n refl (rw (ranged .sized) at h)) (λ h. over n refl (rw (ranged .sized) at h))
   where
@@ -167,7 +167,7 @@ any-ranged s bytes high fault sized all bytes-hold =
 
 -- ---- numbers that no field of a file can be
 
-module _ (W : Way) (k : Kind) {v n : ℕ} (small : v < W .source .base ^ wide W (size (k .shape))) where
+module _ (W : Way) (k : Kind) {v n : ℕ} (small : v < W .source .base ^ sourceUnits W (size (k .shape))) where
   pub file-fault : n ≡ faultOf 5 k v → Judges W k v n
   file-fault is =
       judged k v W small (λ h. is) (λ h.

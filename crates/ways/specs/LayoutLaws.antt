@@ -11,7 +11,7 @@ use Rattle.format.specs.Layout.{Layout, repeat}
 use Rattle.format.specs.Pass.{_⟫_}
 use Rattle.ways.specs.Way.{Way}
 use Rattle.ways.specs.Passes.{refused, behind, Ready, behind-gone}
-use Rattle.ways.specs.Carries.{Came, Valued, Carried, Laid}
+use Rattle.ways.specs.Carries.{Progress, Valued, Carried, Laid}
 
 -- ---- parts
 
@@ -105,12 +105,12 @@ same-laid {W = W} {us} {m} {at = at} {to} same part =
 
 module _ {W : Way} {us m : List ℕ} {at to : ℕ} {these : Script (Unit {0}) → Script (Unit {0})} where
   -- Before the first step.
-  pub came-nowhere : Ready (length us) at to → Came these these W us m m at to at to
+  pub came-nowhere : Ready (length us) at to → Progress these these W us m m at to at to
   came-nowhere ready = record { runs = λ K. refl; ready = ready; same-length = refl }
 
-  module _ {m′ : List ℕ} {at′ to′ : ℕ} {those : Script (Unit {0}) → Script (Unit {0})} (so : Came these those W us m m′ at to at′ to′) where
+  module _ {m′ : List ℕ} {at′ to′ : ℕ} {those : Script (Unit {0}) → Script (Unit {0})} (so : Progress these those W us m m′ at to at′ to′) where
     -- One step more.
-    pub came-on : {m″ : List ℕ} {at″ to″ : ℕ} {left : Script (Unit {0}) → Script (Unit {0})} → Came those left W us m′ m″ at′ to′ at″ to″ → Came these left W us m m″ at to at″ to″
+    pub came-on : {m″ : List ℕ} {at″ to″ : ℕ} {left : Script (Unit {0}) → Script (Unit {0})} → Progress those left W us m′ m″ at′ to′ at″ to″ → Progress these left W us m m″ at to at″ to″
     came-on step = record { runs = λ K. so .runs K ∙ step .runs K; ready = step .ready; same-length = step .same-length ∙ so .same-length }
 
     -- A pass that was refused has come all the way, whatever was left.
@@ -120,7 +120,7 @@ module _ {W : Way} {us m : List ℕ} {at to : ℕ} {these : Script (Unit {0}) �
 
 module _ {A : Type 0} (L : Layout A) {W : Way} {us m : List ℕ} {at to : ℕ} where
   -- One of the parts that are left.
-  pub one-of : (left : ℕ) {m′ : List ℕ} {at′ to′ : ℕ} → 0 < left → Laid (L .format) W us m m′ at to at′ to′ → Came (λ K. repeat left L ⟫ K) (λ K. repeat (left - 1) L ⟫ K) W us m m′ at to at′ to′
+  pub one-of : (left : ℕ) {m′ : List ℕ} {at′ to′ : ℕ} → 0 < left → Laid (L .format) W us m m′ at to at′ to′ → Progress (λ K. repeat left L ⟫ K) (λ K. repeat (left - 1) L ⟫ K) W us m m′ at to at′ to′
   one-of zero some part = absurd (omega arith)
   one-of (suc n) {m′} {at′} {to′} some part =
       record {

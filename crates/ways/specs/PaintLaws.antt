@@ -1,26 +1,28 @@
--- A plain paint whose letter is known to be there: what its letter and its components come to, as a plain paint and as a paint.
+-- Paints whose letter is known to be there: what the letter and what it tells come to. A plain paint is led the same way where a paint may stand.
 use mathlib.Core.Path.{_≡_, refl, sym, ap, _∙_}
 use mathlib.Core.Bool.{Bool, true, false, cond, _&&_, _||_}
 use Prim.Native.Nat.{ℕ, _+_, _^_, _<_, _≤_}
 use native.Mathlib.Omega.{arith}
 use mathlib.Core.List.{List}
 use lib.ListN.{length}
-use lib.Dec.{leb}
-use borrow.Author.Tests.{lt-ltb, le-leb, ne-eqb, leb-true}
+use lib.Dec.{eqb, leb}
+use borrow.Author.Tests.{lt-ltb, le-leb, ne-eqb, leb-true, eqb-true}
 use Rattle.format.specs.Digits.{Below}
-use Rattle.format.specs.Kind.{Kind, Allowed, values}
+use Rattle.format.specs.Kind.{Kind, values}
 use Rattle.format.specs.Kind as Kinds
-use Rattle.format.specs.LiteralLaws.{faultOf}
 use Rattle.format.specs.Script.{Script, ask}
 use Rattle.format.specs.Format.{Format, known, script}
-use Rattle.format.specs.Layout.{field, repeat, _&_}
-use Rattle.format.specs.Alternative.{among, told}
+use Rattle.format.specs.Layout.{Layout, field, repeat, _&_}
+use Rattle.format.specs.Alternative.{among, chosen}
+use Rattle.format.specs.Pass.{_⟫_}
 use Rattle.drawing.specs.Fields as F
 use Rattle.drawing.specs.Fields.{charWhere}
-use Rattle.drawing.specs.Paint.{transparentCase, plainCases, greyComponents, hsbComponents}
+use Rattle.drawing.specs.FieldLaws.{and-both}
+use Rattle.drawing.specs.Paint.{Plain, transparentCase, plainCases, rgbComponents, cmykComponents, greyComponents, hsbComponents, plainPaint, asPaint, paintCases, paint}
 use Rattle.ways.specs.declared.Pass.{Pass}
-use Rattle.ways.specs.Way.{Way, wide, valueAt}
+use Rattle.ways.specs.Way.{Way, sourceUnits, valueAt}
 use Rattle.ways.specs.Passes.{refused, behind, Ready, refusalOf, behind-gone, refusal-ready}
+use Rattle.ways.specs.Carries.{Laid}
 use Rattle.ways.specs.Faults.{judged}
 use Rattle.ways.specs.StepLaws.{there-below, bad-asked}
 use Rattle.ways.specs.Moves.{Led}
@@ -31,7 +33,7 @@ letterFault v c = charWhere (among transparentCase (plainCases v)) .fault c
 
 -- What follows the letter.
 abbrev pub partsOf : (version letter : ℕ) → Script (Unit {0}) → Script (Unit {0})
-partsOf v c K = script (told transparentCase (plainCases v) c .format) (λ b. K)
+partsOf v c K = script (chosen transparentCase (plainCases v) c .format) (λ b. K)
 
 -- Whatever kind of letter has the faults of a plain paint's here, and tells its parts.
 pub record PlainLed (W : Way) (version : ℕ) (us m m′ : List ℕ) (at to : ℕ) (r : Pass) : Type 0 where
@@ -53,7 +55,7 @@ module _ {W : Way} (version : ℕ) {us m m′ : List ℕ} {at to : ℕ} {r : Pas
       }
 
 -- A letter that is not.
-pub plain-refused : {W : Way} (version : ℕ) {us m : List ℕ} {at to : ℕ} {r : Pass} → Below (W .source .base) us → Ready (length us) at to → at + wide W 2 ≤ length us → letterFault version (valueAt W 2 us at) ≡ 7 → r ≡ refusalOf W 7 at → PlainLed W version us m m at to r
+pub plain-refused : {W : Way} (version : ℕ) {us m : List ℕ} {at to : ℕ} {r : Pass} → Below (W .source .base) us → Ready (length us) at to → at + sourceUnits W 2 ≤ length us → letterFault version (valueAt W 2 us at) ≡ 7 → r ≡ refusalOf W 7 at → PlainLed W version us m m at to r
 plain-refused {W} version {us} {m} {at} {to} {r} below ready inside bad is =
     let short = ready .short in
     let going : at < refused = omega arith in
@@ -111,3 +113,91 @@ no-letter version c t r k new = by (leb 4 version) refl
     by : (b : Bool) → leb 4 version ≡ b → letterFault version c ≡ 7
     by true e = let n = new (leb-true 4 version e) in rw (ne-eqb c 82 r, ne-eqb c 67 k, e, ne-eqb c 89 (n .0), ne-eqb c 83 (n .1), ne-eqb c 84 t)
     by false e = rw (ne-eqb c 82 r, ne-eqb c 67 k, e, ne-eqb c 84 t)
+
+-- ---- a whole plain paint, and a paint
+
+-- What is wrong with the letter of a paint, and what follows it.
+abbrev paintFault : (version letter : ℕ) → ℕ
+paintFault v c = charWhere (among (asPaint transparentCase) (paintCases v)) .fault c
+
+abbrev paintParts : (version letter : ℕ) → Script (Unit {0}) → Script (Unit {0})
+paintParts v c K = script (chosen (asPaint transparentCase) (paintCases v) c .format) (λ b. K)
+
+-- Behind the letter of a gradient.
+abbrev pub gradientParts : (version high : ℕ) → Layout (Plain × (Plain × ℕ))
+gradientParts v high = plainPaint v & plainPaint v & field (F.integerIn 0 high)
+
+module _ {W : Way} (version : ℕ) {us m m′ : List ℕ} {at to : ℕ} {r : Pass} where
+  pub plain-laid : PlainLed W version us m m′ at to r → Laid (plainPaint version .format) W us m m′ at to (r .at) (r .to)
+  plain-laid led =
+      record {
+        carried =
+            record {
+              runs = λ K. led .runs (charWhere (among transparentCase (plainCases version))) refl refl refl (λ c. partsOf version c K) K refl;
+              ready = led .ready;
+              same-length = led .same-length;
+            };
+      }
+
+  -- A letter that is no gradient's is one of a plain paint's, or none.
+  pub plain-as-paint : {letter : ℕ} → letter ≡ valueAt W 2 us at → (letter ≡ 71 → ⊥) → (leb 3 version && eqb letter 68) ≡ false → PlainLed W version us m m′ at to r → Laid (paint version .format) W us m m′ at to (r .at) (r .to)
+  plain-as-paint is linear radial led =
+      let c = valueAt W 2 us at in
+      let not-linear = ne-eqb c 71 (λ h. linear (is ∙ h)) in
+      let not-radial = ap (λ x. leb 3 version && eqb x 68) (sym is) ∙ radial in
+      record {
+        carried =
+            record {
+              runs = λ K.
+                  led .runs (charWhere (among (asPaint transparentCase) (paintCases version))) refl refl (ap (λ b. F.unless b 7) (tests (eqb c 82) (eqb c 67) (leb 4 version && eqb c 89) (leb 4 version && eqb c 83) (eqb c 84) not-linear not-radial)) (λ c. paintParts version c K) K
+                  (parts (eqb c 82) (eqb c 67) (leb 4 version && eqb c 89) (leb 4 version && eqb c 83) (rgbComponents ⟫ K) (cmykComponents ⟫ K) (greyComponents ⟫ K) (hsbComponents ⟫ K) (gradientParts version 7 ⟫ K) (gradientParts version 8 ⟫ K) K not-linear not-radial);
+              ready = led .ready;
+              same-length = led .same-length;
+            };
+      }
+    where
+      tests : (r k y s t : Bool) {g d : Bool} → g ≡ false → d ≡ false → (r || (k || (y || (s || (g || (d || t)))))) ≡ (r || (k || (y || (s || t))))
+      tests r k y s t linear radial = rw (linear, radial)
+
+      parts : (r k y s : Bool) {g d : Bool} (A B C D E F K : Script (Unit {0})) → g ≡ false → d ≡ false
+          → cond r A (cond k B (cond y C (cond s D (cond g E (cond d F K))))) ≡ cond r A (cond k B (cond y C (cond s D K)))
+      parts r k y s A B C D E F K linear radial = rw (linear, radial)
+
+  -- A letter that is allowed.
+  paint-led : {A : Type 0} {P : A → Type 0} {f : Format A P} → (c : ℕ) → valueAt W 2 us at ≡ c → c < 256 ^ 2 → paintFault version c ≡ 0 → ((K : Script (Unit {0})) → paintParts version c K ≡ script f (λ a. K))
+      → Led W f us m m′ at to r → Laid (paint version .format) W us m m′ at to (r .at) (r .to)
+  paint-led c is small fine tells led =
+      record {
+        carried =
+            record {
+              runs = λ K.
+                  led .runs (charWhere (among (asPaint transparentCase) (paintCases version))) refl (record { fits = omega (arith, is); faultless = ap (paintFault version) is ∙ fine }) (λ c. paintParts version c K) K
+                  (ap (λ c. paintParts version c K) is ∙ tells K);
+              ready = led .ready;
+              same-length = led .same-length;
+            };
+      }
+
+  pub linear-laid : {letter : ℕ} → letter ≡ valueAt W 2 us at → letter ≡ 71 → Led W (gradientParts version 7 .format) us m m′ at to r → Laid (paint version .format) W us m m′ at to (r .at) (r .to)
+  linear-laid is linear led = paint-led 71 (sym is ∙ linear) (omega arith) (fine (leb 4 version)) (λ K. parts (leb 4 version) (greyComponents ⟫ K) (hsbComponents ⟫ K) (gradientParts version 7 ⟫ K)) led
+    where
+      fine : (new : Bool) → F.unless ((new && false) || ((new && false) || true)) 7 ≡ 0
+      fine true = refl
+      fine false = refl
+
+      parts : (new : Bool) (A B C : Script (Unit {0})) → cond (new && false) A (cond (new && false) B C) ≡ C
+      parts true A B C = refl
+      parts false A B C = refl
+
+  pub radial-laid : {letter : ℕ} → letter ≡ valueAt W 2 us at → (leb 3 version && eqb letter 68) ≡ true → Led W (gradientParts version 8 .format) us m m′ at to r → Laid (paint version .format) W us m m′ at to (r .at) (r .to)
+  radial-laid {letter} is radial led =
+      let both = and-both (leb 3 version) (eqb letter 68) radial in
+      paint-led 68 (sym is ∙ eqb-true letter 68 (both .1)) (omega arith) (fine (leb 4 version) (leb 3 version) (both .0)) (λ K. parts (leb 4 version) (leb 3 version) (greyComponents ⟫ K) (hsbComponents ⟫ K) (gradientParts version 8 ⟫ K) K (both .0)) led
+    where
+      fine : (new may : Bool) → may ≡ true → F.unless ((new && false) || ((new && false) || ((may && true) || false))) 7 ≡ 0
+      fine true may e = rw e
+      fine false may e = rw e
+
+      parts : (new may : Bool) (A B C D : Script (Unit {0})) → may ≡ true → cond (new && false) A (cond (new && false) B (cond (may && true) C D)) ≡ C
+      parts true may A B C D e = rw e
+      parts false may A B C D e = rw e

@@ -11,7 +11,7 @@ use Rattle.format.specs.Script.{Script}
 use Rattle.format.specs.Pass.{Passed, stopped, pass}
 use Rattle.drawing.specs.Limits.{lengthLimit}
 use Rattle.ways.specs.declared.Pass.{Pass}
-use Rattle.ways.specs.Way.{Way, route, wide, far}
+use Rattle.ways.specs.Way.{Way, route, sourceUnits, targetUnits}
 
 -- No source is so long. From here on a place is that of a refusal.
 abbrev pub refused : ℕ
@@ -33,7 +33,11 @@ refusalOf W n at = record { at = W .place at + refused; to = W .number n }
 
 -- Behind so many fields of a size.
 abbrev pub stepped : Way → (size count at to : ℕ) → Pass
-stepped W size count at to = record { at = at + count * wide W size; to = to + count * far W size }
+stepped W size count at to = record { at = at + count * sourceUnits W size; to = to + count * targetUnits W size }
+
+-- Behind fields of so many bytes in a file and words in a table.
+abbrev pub aheadOf : Way → (bytes words at to : ℕ) → Pass
+aheadOf W bytes words at to = record { at = at + W .source .pick bytes words; to = to + W .target .pick bytes words }
 
 -- ---- laws
 
@@ -65,14 +69,14 @@ few-behind at to count wide far few positive small =
     let b : count * 1 ≤ count * wide = Nat.mul-le-mul-left count positive in
     omega arith
 
-module _ (W : Way) (size count : ℕ) {total at to : ℕ} (ready : Ready total at to) (inside : at + count * wide W size ≤ total) where
+module _ (W : Way) (size count : ℕ) {total at to : ℕ} (ready : Ready total at to) (inside : at + count * sourceUnits W size ≤ total) where
   -- Fields that are there are those of a pass that goes on.
   pub still-going : at < refused
   still-going = let short = ready .short in omega arith
 
   module _ (least : 0 < size) (most : size ≤ 8) where
-    few-then : to + count * far W size ≤ 2 ^ 40 + 8 * (at + count * wide W size)
-    few-then = few-behind at to count (wide W size) (far W size) (ready .few still-going) (W .source .least size least) (W .target .most size most)
+    few-then : to + count * targetUnits W size ≤ 2 ^ 40 + 8 * (at + count * sourceUnits W size)
+    few-then = few-behind at to count (sourceUnits W size) (targetUnits W size) (ready .few still-going) (W .source .least size least) (W .target .most size most)
 
     pub stepped-ready : Ready total (stepped W size count at to .at) (stepped W size count at to .to)
     stepped-ready =
@@ -81,7 +85,7 @@ module _ (W : Way) (size count : ℕ) {total at to : ℕ} (ready : Ready total a
         record { short = short; near = omega arith; inside = λ h. inside; few = λ h. few }
 
     -- What a step needs.
-    pub step-small : (at + count * wide W size < 2 ^ 60) × (to + count * far W size < 2 ^ 60)
+    pub step-small : (at + count * sourceUnits W size < 2 ^ 60) × (to + count * targetUnits W size < 2 ^ 60)
     step-small =
         let short = ready .short in
         let few = few-then in

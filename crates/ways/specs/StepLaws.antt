@@ -12,7 +12,6 @@ use Rattle.format.specs.Digits.{digits, Below}
 use Rattle.format.specs.LeafLaws.{field-below}
 use Rattle.format.specs.Kind.{Kind, Allowed}
 use Rattle.format.specs.Kind as K
-use Rattle.format.specs.Codec.{found}
 use Rattle.format.specs.Codec as C
 use Rattle.format.specs.FixedReading.{fixed}
 use Rattle.format.specs.LiteralLaws.{faultOf, read-cut, read-fault, read-value}
@@ -21,9 +20,9 @@ use Rattle.format.specs.Format.{one}
 use Rattle.format.specs.Pass.{Passed, put, stopped, onward, pass}
 use Rattle.format.specs.PassLaws.{length-put}
 use Rattle.ways.specs.declared.Pass.{Pass}
-use Rattle.ways.specs.declared.Took.{Took}
-use Rattle.ways.specs.Way.{Way, Exact, Blind, codec, route, wide, far, valueAt}
-use Rattle.ways.specs.Passes.{refused, behind, Ready, refusalOf, stepped, behind-going, behind-gone, behind-refusal, refusal-ready, still-going, stepped-ready, step-small}
+use Rattle.ways.specs.declared.FieldPass.{FieldPass}
+use Rattle.ways.specs.Way.{Way, Exact, Blind, codec, route, sourceUnits, targetUnits, valueAt}
+use Rattle.ways.specs.Passes.{refused, behind, Ready, stepped, behind-going, behind-refusal, refusal-ready, still-going, stepped-ready, step-small}
 use Rattle.ways.specs.Carries.{Valued, Asked}
 use Rattle.ways.specs.LayoutLaws.{gone-valued}
 use Rattle.ways.specs.Steps.{Fits, Small, Refused, Keeps}
@@ -39,29 +38,29 @@ cut-number W = by (W .tells)
 
 -- The field is there.
 pub record There (W : Way) (us : List ℕ) (at size value : ℕ) : Type 0 where
-  pub inside : at + wide W size ≤ length us
+  pub inside : at + sourceUnits W size ≤ length us
   pub value-is : value ≡ valueAt W size us at
-  pub small : value < W .source .base ^ wide W size
+  pub small : value < W .source .base ^ sourceUnits W size
 
-pub there-below : (W : Way) (us : List ℕ) (at size : ℕ) → Below (W .source .base) us → at + wide W size ≤ length us → There W us at size (valueAt W size us at)
+pub there-below : (W : Way) (us : List ℕ) (at size : ℕ) → Below (W .source .base) us → at + sourceUnits W size ≤ length us → There W us at size (valueAt W size us at)
 there-below W us at size below inside =
-    record { inside = inside; value-is = refl; small = field-below (W .source .base) us at (wide W size) inside below }
+    record { inside = inside; value-is = refl; small = field-below (W .source .base) us at (sourceUnits W size) inside below }
 
 -- ---- the script
 
 module _ (W : Way) (us m : List ℕ) (at to : ℕ) (going : at < refused) (k : Kind) where
   abbrev next-at : ℕ
-  next-at = at + wide W (K.size (k .shape))
+  next-at = at + sourceUnits W (K.size (k .shape))
 
   -- What comes behind the field, by its value.
   abbrev then-pass : (ℕ → Script (Unit {0})) → ℕ → Passed
-  then-pass next v = pass (route W) us (next v) next-at (to + far W (K.size (k .shape))) (put to (digits (W .target .base) (far W (K.size (k .shape))) v) m)
+  then-pass next v = pass (route W) us (next v) next-at (to + targetUnits W (K.size (k .shape))) (put to (digits (W .target .base) (targetUnits W (K.size (k .shape))) v) m)
 
-  field-goes : (next : ℕ → Script (Unit {0})) (v : ℕ) → at + wide W (K.size (k .shape)) ≤ length us → v ≡ valueAt W (K.size (k .shape)) us at → Allowed k v
+  field-goes : (next : ℕ → Script (Unit {0})) (v : ℕ) → at + sourceUnits W (K.size (k .shape)) ≤ length us → v ≡ valueAt W (K.size (k .shape)) us at → Allowed k v
       → behind W us m at to (ask k next) ≡ then-pass next v
   field-goes next v inside is allowed =
       behind-going W us m at to (ask k next) going
-      ∙ ap (λ o. onward (route W) at o (then-pass next)) (read-value (W .source .base) (λ s. wide W (K.size s)) (W .source .missing) (W .source .meaningless) us at k v inside is allowed)
+      ∙ ap (λ o. onward (route W) at o (then-pass next)) (read-value (W .source .base) (λ s. sourceUnits W (K.size s)) (W .source .missing) (W .source .meaningless) us at k v inside is allowed)
 
   field-stops : (next : ℕ → Script (Unit {0})) (n : ℕ) → fixed (codec (W .source)) .read k (drop at us) ≡ C.refused n (drop at us)
       → behind W us m at to (ask k next) ≡ stopped (W .number n) (W .place at)
@@ -87,21 +86,21 @@ module _ {W : Way} {us m : List ℕ} {at to : ℕ} (ready : Ready (length us) at
       by false e = let gone = ltb-false at refused e in rw (is .before gone) (gone-valued ready gone)
 
   -- The field is not there, or the pass was refused before.
-  pub not-there : (k : Kind) {bytes words v : ℕ} {r : Bool} {q : Pass} → W .source .pick bytes words ≡ wide W (K.size (k .shape)) → Fits W bytes words us at r → r ≡ false → Refused W 2 at to q
+  pub not-there : (k : Kind) {bytes words v : ℕ} {r : Bool} {q : Pass} → W .source .pick bytes words ≡ sourceUnits W (K.size (k .shape)) → Fits W bytes words us at r → r ≡ false → Refused W 2 at to q
       → Valued (one k) v W us m m at to (q .at) (q .to)
   not-there k units fits failed is =
       stopped-asked k is (λ next going.
       let inside = ready .inside going in
       let short = fits .no failed in
-      field-stops W us m at to going k next (W .source .missing) (read-cut (W .source .base) (λ s. wide W (K.size s)) (W .source .missing) (W .source .meaningless) us at k (omega (arith, units)))
+      field-stops W us m at to going k next (W .source .missing) (read-cut (W .source .base) (λ s. sourceUnits W (K.size s)) (W .source .missing) (W .source .meaningless) us at k (omega (arith, units)))
       ∙ ap (λ n. stopped n (W .place at)) (cut-number W))
 
   module _ (k : Kind) {size v : ℕ} (sized : K.size (k .shape) ≡ size) (there : There W us at size v) where
     -- It is kept.
-    pub good-asked : 0 < size → size ≤ 8 → Allowed k v → {m′ : List ℕ} → m′ ≡ put to (digits (W .target .base) (far W size) v) m
+    pub good-asked : 0 < size → size ≤ 8 → Allowed k v → {m′ : List ℕ} → m′ ≡ put to (digits (W .target .base) (targetUnits W size) v) m
         → Valued (one k) v W us m m′ at to (stepped W size 1 at to .at) (stepped W size 1 at to .to)
     good-asked least most allowed {m′} memory =
-        let inside : at + 1 * wide W size ≤ length us = omega (arith, there .inside) in
+        let inside : at + 1 * sourceUnits W size ≤ length us = omega (arith, there .inside) in
         let going = still-going W size 1 ready inside in
         let after = stepped-ready W size 1 ready inside least most in
         let short = ready .short in
@@ -109,12 +108,12 @@ module _ {W : Way} {us m : List ℕ} {at to : ℕ} (ready : Ready (length us) at
         record {
           runs = λ next.
               field-goes W us m at to going k next v (rw sized (there .inside)) (rw sized (there .value-is)) allowed
-              ∙ ap (λ s. pass (route W) us (next v) (at + wide W s) (to + far W s) (put to (digits (W .target .base) (far W s) v) m)) sized
-              ∙ ap₂ (λ a b. pass (route W) us (next v) (at + a) (to + b) (put to (digits (W .target .base) (far W size) v) m)) (once (wide W size)) (once (far W size))
-              ∙ ap (λ l. pass (route W) us (next v) (at + 1 * wide W size) (to + 1 * far W size) l) (sym memory)
-              ∙ sym (behind-going W us m′ (at + 1 * wide W size) (to + 1 * far W size) (next v) (omega arith));
+              ∙ ap (λ s. pass (route W) us (next v) (at + sourceUnits W s) (to + targetUnits W s) (put to (digits (W .target .base) (targetUnits W s) v) m)) sized
+              ∙ ap₂ (λ a b. pass (route W) us (next v) (at + a) (to + b) (put to (digits (W .target .base) (targetUnits W size) v) m)) (once (sourceUnits W size)) (once (targetUnits W size))
+              ∙ ap (λ l. pass (route W) us (next v) (at + 1 * sourceUnits W size) (to + 1 * targetUnits W size) l) (sym memory)
+              ∙ sym (behind-going W us m′ (at + 1 * sourceUnits W size) (to + 1 * targetUnits W size) (next v) (omega arith));
           ready = after;
-          same-length = ap length memory ∙ length-put to (digits (W .target .base) (far W size) v) m;
+          same-length = ap length memory ∙ length-put to (digits (W .target .base) (targetUnits W size) v) m;
         }
 
     -- It is refused by its fault.
@@ -125,12 +124,12 @@ module _ {W : Way} {us m : List ℕ} {at to : ℕ} (ready : Ready (length us) at
         by next going zero e = let s = judges .some positive in absurd (omega arith)
         by next going (suc f) e =
             field-stops W us m at to going k next (suc f)
-            (read-fault (W .source .base) (λ s. wide W (K.size s)) (W .source .missing) (W .source .meaningless) us at k v (rw sized (there .inside)) (rw sized (there .value-is)) f e)
+            (read-fault (W .source .base) (λ s. sourceUnits W (K.size s)) (W .source .missing) (W .source .meaningless) us at k v (rw sized (there .inside)) (rw sized (there .value-is)) f e)
             ∙ ap (λ x. stopped (W .number x) (W .place at)) (sym e)
             ∙ ap (λ x. stopped x (W .place at)) (judges .number-is positive)
 
     -- It is kept or refused by its fault.
-    pub field-asked : 0 < size → size ≤ 8 → {n : ℕ} → Judges W k v n → {m′ : List ℕ} {r : Took} → Keeps W size v n m m′ at to r → Asked k W us m m′ at to r
+    pub field-asked : 0 < size → size ≤ 8 → {n : ℕ} → Judges W k v n → {m′ : List ℕ} {r : FieldPass} → Keeps W size v n m m′ at to r → Asked k W us m m′ at to r
     field-asked least most {n} judges {m′} {r} keeps = by n refl
       where
         by : (x : ℕ) → n ≡ x → Asked k W us m m′ at to r
@@ -138,13 +137,13 @@ module _ {W : Way} {us m : List ℕ} {at to : ℕ} (ready : Ready (length us) at
         by (suc x) e = let g = keeps .bad (omega arith) in rw (g .0) (bad-asked (omega arith) judges (g .1))
 
 -- The field is there, with this value.
-pub there-with : {W : Way} (size : ℕ) {bytes words : ℕ} {us : List ℕ} {at : ℕ} {r : Bool} {v : ℕ} → W .source .pick bytes words ≡ wide W size → Fits W bytes words us at r → r ≡ true
-    → (v ≡ valueAt W size us at) × (v < W .source .base ^ wide W size) → There W us at size v
+pub there-with : {W : Way} (size : ℕ) {bytes words : ℕ} {us : List ℕ} {at : ℕ} {r : Bool} {v : ℕ} → W .source .pick bytes words ≡ sourceUnits W size → Fits W bytes words us at r → r ≡ true
+    → (v ≡ valueAt W size us at) × (v < W .source .base ^ sourceUnits W size) → There W us at size v
 there-with size units fits taken value =
     record { inside = rw (← units) (fits .yes taken); value-is = value .0; small = value .1 }
 
 -- What a step over fields that are there needs.
-pub steps-small : {W : Way} (size count : ℕ) {total at to : ℕ} → Ready total at to → at + count * wide W size ≤ total → 0 < size → size ≤ 8 → Small W size count at to
+pub steps-small : {W : Way} (size count : ℕ) {total at to : ℕ} → Ready total at to → at + count * sourceUnits W size ≤ total → 0 < size → size ≤ 8 → Small W size count at to
 steps-small {W} size count ready inside least most =
     let small = step-small W size count ready inside least most in
     record { at-small = small .0; to-small = small .1 }

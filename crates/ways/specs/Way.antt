@@ -55,12 +55,12 @@ route W =
     record { source = codec (W .source); target = codec (W .target); refusal = λ n at. stopped (W .number n) (W .place at) }
 
 -- The units of a field in the source and in the target.
-abbrev pub wide : Way → ℕ → ℕ
-wide W n = widthOf (W .source) n
+abbrev pub sourceUnits : Way → ℕ → ℕ
+sourceUnits W n = widthOf (W .source) n
 
-abbrev pub far : Way → ℕ → ℕ
-far W n = widthOf (W .target) n
+abbrev pub targetUnits : Way → ℕ → ℕ
+targetUnits W n = widthOf (W .target) n
 
 -- The number at a place of the source.
 abbrev pub valueAt : Way → (size : ℕ) → List ℕ → ℕ → ℕ
-valueAt W n us at = number (W .source .base) (take (wide W n) (drop at us))
+valueAt W n us at = number (W .source .base) (take (sourceUnits W n) (drop at us))

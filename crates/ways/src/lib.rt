@@ -9,7 +9,7 @@ pub struct Pass {
 pub const REFUSED: usize = 1_073_741_824;
 
 // A field's value, 0 where there is none, and how far the pass has come behind it.
-pub struct Took {
+pub struct FieldPass {
     pub value: u64,
     pub pass: Pass,
 }

@@ -2,6 +2,7 @@
 //! instructions for each byte of file. The table is printed as Markdown.
 
 mod plans;
+pub mod stack;
 mod work;
 
 use std::hint::black_box;

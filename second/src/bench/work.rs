@@ -73,11 +73,11 @@ pub struct Work {
     pub each: Vec<Plan>,
 }
 
-fn given<T>(run: &[T]) -> library::Given<T> {
+pub fn given<T>(run: &[T]) -> library::Given<T> {
     (run.as_ptr(), run.len())
 }
 
-fn lent<T>(run: &mut [T]) -> library::Lent<T> {
+pub fn lent<T>(run: &mut [T]) -> library::Lent<T> {
     (run.as_mut_ptr(), run.len())
 }
 

@@ -1,28 +1,64 @@
 -- `reader::store_counted` meets its contract.
-use native.Mathlib.Omega.{arith}
 use mir.Syntax.{w8}
-use borrow.Author.Needs.{needs}
+use Rattle.reader.specs.ReadLaws.{short-rows, short-words, read-stored}
 use Rattle.format.specs.LeafLaws.{known-below}
-use Rattle.reader.specs.ReadLaws.{counts-small, at-small, short-rows, short-words, readable, read-stored}
+use borrow.Author.Needs.{needs}
 use Rattle.reader.proofs.store_counted.Statement.{statement}
 use Rattle.reader.proofs.store_counted.Tie as tie
+
+counted-requires : tie.Need-counted-requires
+counted-requires c κs = search needs
+
+returns : tie.Need-returns
+returns c =
+    let at-if1 = c .before in
+    let at-shared-slice-known = at-if1 .before .before .before in
+    let at-args = at-shared-slice-known .before in
+    short-rows (at-args .args .file .now) (at-args .args .contents .now) (at-args .args .bodies .now) (known-below w8 (at-args .args .file .now) (at-shared-slice-known .shared-slice-known .given)) (at-args .args .at) (at-args .args .rows) (at-args .args .words) (at-args .pre) (at-if1 .if1 .taken) (c .counted .ensures)
+
+counted-requires-2 : tie.Need-counted-requires-2
+counted-requires-2 c κs = search needs
+
+returns-2 : tie.Need-returns-2
+returns-2 c =
+    let at-if2 = c .before in
+    let at-if1 = at-if2 .before in
+    let at-shared-slice-known = at-if1 .before .before .before in
+    let at-args = at-shared-slice-known .before in
+    short-words (at-args .args .file .now) (at-args .args .contents .now) (at-args .args .bodies .now) (known-below w8 (at-args .args .file .now) (at-shared-slice-known .shared-slice-known .given)) (at-args .args .at) (at-args .args .rows) (at-args .args .words) (at-args .pre) (at-if1 .if1 .left) (at-if2 .if2 .taken) (c .counted2 .ensures)
+
+pass-file-requires : tie.Need-pass-file-requires
+pass-file-requires c κs = search needs
+
+counted-requires-3 : tie.Need-counted-requires-3
+counted-requires-3 c κs = search needs
+
+same-length : tie.Need-same-length
+same-length c = search needs
+
+same-length-2 : tie.Need-same-length-2
+same-length-2 c = search needs
+
+returns-3 : tie.Need-returns-3
+returns-3 c =
+    let at-before = c .before .before .before .before in
+    let at-pass-file = at-before .before in
+    let at-if2 = at-pass-file .before .before .before in
+    let at-if1 = at-if2 .before in
+    let at-shared-slice-known = at-if1 .before .before .before in
+    let at-args = at-shared-slice-known .before in
+    read-stored (at-args .args .file .now) (at-args .args .contents .now) (at-args .args .bodies .now) (known-below w8 (at-args .args .file .now) (at-shared-slice-known .shared-slice-known .given)) (at-args .args .at) (at-args .args .rows) (at-args .args .words) (at-args .pre) (at-if1 .if1 .left) (at-if2 .if2 .left) (at-pass-file .pass-file .ensures) (c .counted3 .ensures)
 
 pub store-counted-spec : {M : Type 1} → statement M
 store-counted-spec =
     tie.close
     (tie.spec
-    (λ c. let s = counts-small (c .before .before .before .before .args .file .now) (c .before .before .before .before .args .contents .now) (c .before .before .before .before .args .bodies .now) (c .before .before .before .before .args .at) (c .before .before .before .before .args .rows) (c .before .before .before .before .args .words) (c .before .before .before .before .pre) in omega (arith, s .0, s .1, at-small (c .before .before .before .before .args .file .now) (c .before .before .before .before .args .contents .now) (c .before .before .before .before .args .bodies .now) (c .before .before .before .before .args .at) (c .before .before .before .before .args .rows) (c .before .before .before .before .args .words) (c .before .before .before .before .pre)))
-    (λ c. search needs)
-    (λ c. search needs)
-    (λ c. short-rows (c .before .before .before .before .args .file .now) (c .before .before .before .before .args .contents .now) (c .before .before .before .before .args .bodies .now) (c .before .before .before .before .args .at) (c .before .before .before .before .args .rows) (c .before .before .before .before .args .words) (c .before .before .before .before .pre) (known-below w8 (c .before .before .before .before .args .file .now) (c .before .before .before .shared-slice-known .given)) (c .if1 .taken))
-    (λ c. let s = counts-small (c .before .before .before .before .before .args .file .now) (c .before .before .before .before .before .args .contents .now) (c .before .before .before .before .before .args .bodies .now) (c .before .before .before .before .before .args .at) (c .before .before .before .before .before .args .rows) (c .before .before .before .before .before .args .words) (c .before .before .before .before .before .pre) in omega (arith, s .0, s .1, at-small (c .before .before .before .before .before .args .file .now) (c .before .before .before .before .before .args .contents .now) (c .before .before .before .before .before .args .bodies .now) (c .before .before .before .before .before .args .at) (c .before .before .before .before .before .args .rows) (c .before .before .before .before .before .args .words) (c .before .before .before .before .before .pre)))
-    (λ c. search needs)
-    (λ c. search needs)
-    (λ c. short-words (c .before .before .before .before .before .args .file .now) (c .before .before .before .before .before .args .contents .now) (c .before .before .before .before .before .args .bodies .now) (c .before .before .before .before .before .args .at) (c .before .before .before .before .before .args .rows) (c .before .before .before .before .before .args .words) (c .before .before .before .before .before .pre) (c .before .if1 .left) (known-below w8 (c .before .before .before .before .before .args .file .now) (c .before .before .before .before .shared-slice-known .given)) (c .if2 .taken))
-    (λ c κs. readable (c .before .before .before .before .before .before .before .args .file .now) (c .before .before .before .before .before .before .before .args .contents .now) (c .before .before .before .before .before .before .before .args .bodies .now) (c .before .before .before .before .before .before .before .args .at) (c .before .before .before .before .before .before .before .args .rows) (c .before .before .before .before .before .before .before .args .words) (c .before .before .before .before .before .before .before .pre) (c .before .before .before .if1 .left) (c .before .before .if2 .left))
-    (λ c. let s = counts-small (c .before .before .before .before .before .before .before .before .before .before .before .before .args .file .now) (c .before .before .before .before .before .before .before .before .before .before .before .before .args .contents .now) (c .before .before .before .before .before .before .before .before .before .before .before .before .args .bodies .now) (c .before .before .before .before .before .before .before .before .before .before .before .before .args .at) (c .before .before .before .before .before .before .before .before .before .before .before .before .args .rows) (c .before .before .before .before .before .before .before .before .before .before .before .before .args .words) (c .before .before .before .before .before .before .before .before .before .before .before .before .pre) in omega (arith, s .0, s .1, at-small (c .before .before .before .before .before .before .before .before .before .before .before .before .args .file .now) (c .before .before .before .before .before .before .before .before .before .before .before .before .args .contents .now) (c .before .before .before .before .before .before .before .before .before .before .before .before .args .bodies .now) (c .before .before .before .before .before .before .before .before .before .before .before .before .args .at) (c .before .before .before .before .before .before .before .before .before .before .before .before .args .rows) (c .before .before .before .before .before .before .before .before .before .before .before .before .args .words) (c .before .before .before .before .before .before .before .before .before .before .before .before .pre)))
-    (λ c. search needs)
-    (λ c. search needs)
-    (λ c. search needs)
-    (λ c. search needs)
-    (λ c. read-stored (c .before .before .before .before .before .before .before .before .before .before .before .before .args .file .now) (c .before .before .before .before .before .before .before .before .before .before .before .before .args .contents .now) (c .before .before .before .before .before .before .before .before .before .before .before .before .args .bodies .now) (c .before .before .before .before .before .before .before .before .before .before .before .before .args .at) (c .before .before .before .before .before .before .before .before .before .before .before .before .args .rows) (c .before .before .before .before .before .before .before .before .before .before .before .before .args .words) (c .before .before .before .before .before .before .before .before .before .before .before .before .pre) (c .before .before .before .before .before .before .before .before .if1 .left) (c .before .before .before .before .before .before .before .if2 .left) (known-below w8 (c .before .before .before .before .before .before .before .before .before .before .before .before .args .file .now) (c .before .before .before .before .before .before .before .before .before .before .before .shared-slice-known .given)) (c .before .before .before .before .store-file .last .1 .0) (c .before .before .before .before .store-file .last .1 .1 .0) (c .before .before .before .before .store-file .ensures)))
+    counted-requires
+    returns
+    counted-requires-2
+    returns-2
+    pass-file-requires
+    counted-requires-3
+    same-length
+    same-length-2
+    returns-3)

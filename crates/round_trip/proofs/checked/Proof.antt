@@ -9,11 +9,9 @@ use Rattle.round_trip.proofs.checked.Reads as reads
 use Rattle.round_trip.proofs.checked.Lts as lts
 use Rattle.jdr.proofs.check.Reads as check-reads
 
--- src/lib.rt:66:5
 check-requires : tie.Need-check-requires
 check-requires c κs = search needs
 
--- src/lib.rt:63:1
 returns : tie.Need-returns
 returns c = table-checked (known-below w32 (c .before .before .before .args .bodies .now) (c .before .shared-slice-known2 .given)) (c .check .ensures)
 

@@ -15,37 +15,29 @@ use Rattle.round_trip.proofs.read_then_write.Lts as lts
 use Rattle.jdr.proofs.read.Reads as read-reads
 use Rattle.jdr.proofs.write.Reads as write-reads
 
--- src/lib.rt:21:9
 read-requires : tie.Need-read-requires
 read-requires c κs = search needs
 
--- src/lib.rt:23:9
 same-length : tie.Need-same-length
 same-length c = search needs
 
--- src/lib.rt:23:9
 same-length-2 : tie.Need-same-length-2
 same-length-2 c = search needs
 
--- src/lib.rt:23:9
 returns : tie.Need-returns
 returns c =
     let at-read = c .before .before .before .before .before .before in
     file-refused (at-read .read .ensures) (c .if1 .taken)
 
--- src/lib.rt:28:25
 cast-row-words : tie.Need-cast-row-words
 cast-row-words c = search needs
 
--- src/lib.rt:28:21
 mul-row-words : tie.Need-mul-row-words
 mul-row-words c = search needs
 
--- src/lib.rt:29:22
 cast-body-words : tie.Need-cast-body-words
 cast-body-words c = search needs
 
--- src/lib.rt:30:30
 slice-reshare-prefix-write : tie.Need-slice-reshare-prefix-write
 slice-reshare-prefix-write c =
     let at-if1 = c .before .before in
@@ -54,7 +46,6 @@ slice-reshare-prefix-write c =
     let at-shared-slice-known = at-read .before .before .before .before .before .before in
     let within = read-within (at-shared-slice-known .shared-slice-known .given) (at-read .read .ensures) (at-if1 .if1 .left) in omega (arith, within .rows-fit, at-contents .contents .given)
 
--- src/lib.rt:30:30
 slice-aggregate-write : tie.Need-slice-aggregate-write
 slice-aggregate-write c =
     let at-if1 = c .before .before .before in
@@ -63,7 +54,6 @@ slice-aggregate-write c =
     let at-shared-slice-known = at-read .before .before .before .before .before .before in
     let within = read-within (at-shared-slice-known .shared-slice-known .given) (at-read .read .ensures) (at-if1 .if1 .left) in sym (length-take-le (4 * at-read .read .result .rows) _ (omega (arith, within .rows-fit, at-contents .contents .given)))
 
--- src/lib.rt:30:54
 slice-reshare-prefix-write-2 : tie.Need-slice-reshare-prefix-write-2
 slice-reshare-prefix-write-2 c =
     let at-if1 = c .before .before .before in
@@ -72,7 +62,6 @@ slice-reshare-prefix-write-2 c =
     let at-shared-slice-known = at-read .before .before .before .before .before .before in
     let within = read-within (at-shared-slice-known .shared-slice-known .given) (at-read .read .ensures) (at-if1 .if1 .left) in omega (arith, within .words-fit, at-bodies .bodies .given)
 
--- src/lib.rt:30:54
 slice-aggregate-write-2 : tie.Need-slice-aggregate-write-2
 slice-aggregate-write-2 c =
     let at-if1 = c .before .before .before .before in
@@ -81,23 +70,18 @@ slice-aggregate-write-2 c =
     let at-shared-slice-known = at-read .before .before .before .before .before .before in
     let within = read-within (at-shared-slice-known .shared-slice-known .given) (at-read .read .ensures) (at-if1 .if1 .left) in sym (length-take-le (at-read .read .result .words) _ (omega (arith, within .words-fit, at-bodies .bodies .given)))
 
--- src/lib.rt:30:9
 write-requires : tie.Need-write-requires
 write-requires c κs = search needs
 
--- src/lib.rt:13:1
 same-length-3 : tie.Need-same-length-3
 same-length-3 c = search needs
 
--- src/lib.rt:13:1
 same-length-4 : tie.Need-same-length-4
 same-length-4 c = search needs
 
--- src/lib.rt:13:1
 same-length-5 : tie.Need-same-length-5
 same-length-5 c = search needs
 
--- src/lib.rt:13:1
 returns-2 : tie.Need-returns-2
 returns-2 c =
     let at-write = c .before .before in

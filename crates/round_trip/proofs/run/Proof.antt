@@ -8,27 +8,21 @@ use Rattle.round_trip.proofs.run.Tie as tie
 use Rattle.round_trip.proofs.run.Reads as reads
 use Rattle.round_trip.proofs.run.Lts as lts
 
--- src/lib.rt:78:14
 add-to : tie.Need-add-to
 add-to c = search needs
 
--- src/lib.rt:79:5
 mul-result : tie.Need-mul-result
 mul-result c = search needs
 
--- src/lib.rt:79:5
 sub-result : tie.Need-sub-result
 sub-result c = search needs
 
--- src/lib.rt:79:5
 part-result-start : tie.Need-part-result-start
 part-result-start c = search needs
 
--- src/lib.rt:79:5
 part-result-end : tie.Need-part-result-end
 part-result-end c = search needs
 
--- src/lib.rt:73:1
 returns : tie.Need-returns
 returns c =
     let at-args = c .before in

@@ -13,37 +13,30 @@ use Rattle.jdr.proofs.shown.Reads as shown-reads
 use Rattle.jdr.proofs.text.Reads as text-reads
 use Rattle.round_trip.proofs.run.Reads as run-reads
 
--- src/lib.rt:86:9
 text-requires : tie.Need-text-requires
 text-requires c κs = search needs
 
--- src/lib.rt:88:9
 slice-aggregate-result : tie.Need-slice-aggregate-result
 slice-aggregate-result c = search needs
 
--- src/lib.rt:88:9
 returns : tie.Need-returns
 returns c = shows-none (c .before .before .before .text .ensures) (c .before .if1 .taken)
 
--- src/lib.rt:93:9
 run-requires : tie.Need-run-requires
 run-requires c κs =
     let at-if1 = c .before .before in
     let at-text = at-if1 .before .before in
     runs-inside (at-text .text .ensures) (at-if1 .if1 .left) .0
 
--- src/lib.rt:94:9
 run-requires-2 : tie.Need-run-requires-2
 run-requires-2 c κs =
     let at-if1 = c .before .before .before in
     let at-text = at-if1 .before .before in
     runs-inside (at-text .text .ensures) (at-if1 .if1 .left) .1
 
--- src/lib.rt:92:5
 shown-requires : tie.Need-shown-requires
 shown-requires c κs = search needs
 
--- src/lib.rt:83:1
 returns-2 : tie.Need-returns-2
 returns-2 c =
     let at-run = c .before .before in

@@ -13,23 +13,18 @@ use Rattle.round_trip.proofs.write_then_read.Lts as lts
 use Rattle.jdr.proofs.read.Reads as read-reads
 use Rattle.jdr.proofs.write.Reads as write-reads
 
--- src/lib.rt:47:9
 write-requires : tie.Need-write-requires
 write-requires c κs = search needs
 
--- src/lib.rt:49:9
 same-length : tie.Need-same-length
 same-length c = search needs
 
--- src/lib.rt:49:9
 returns : tie.Need-returns
 returns c = table-refused (c .before .before .before .before .write .ensures) (c .if1 .taken)
 
--- src/lib.rt:54:18
 cast-length : tie.Need-cast-length
 cast-length c = search needs
 
--- src/lib.rt:55:26
 slice-reshare-prefix-read : tie.Need-slice-reshare-prefix-read
 slice-reshare-prefix-read c =
     let at-if1 = c .before in
@@ -38,7 +33,6 @@ slice-reshare-prefix-read c =
     let at-args = at-shared-slice-known2 .before .before in
     omega (arith, length-fits (at-write .write .ensures) (known-below w32 (at-args .args .bodies .now) (at-shared-slice-known2 .shared-slice-known2 .given)) (at-if1 .if1 .left))
 
--- src/lib.rt:55:26
 slice-aggregate-read : tie.Need-slice-aggregate-read
 slice-aggregate-read c =
     let at-if1 = c .before .before in
@@ -47,23 +41,18 @@ slice-aggregate-read c =
     let at-args = at-shared-slice-known2 .before .before in
     sym (length-take-le (at-write .write .result .offset) _ (length-fits (at-write .write .ensures) (known-below w32 (at-args .args .bodies .now) (at-shared-slice-known2 .shared-slice-known2 .given)) (at-if1 .if1 .left)))
 
--- src/lib.rt:55:9
 read-requires : tie.Need-read-requires
 read-requires c κs = search needs
 
--- src/lib.rt:38:1
 same-length-2 : tie.Need-same-length-2
 same-length-2 c = search needs
 
--- src/lib.rt:38:1
 same-length-3 : tie.Need-same-length-3
 same-length-3 c = search needs
 
--- src/lib.rt:38:1
 same-length-4 : tie.Need-same-length-4
 same-length-4 c = search needs
 
--- src/lib.rt:38:1
 returns-2 : tie.Need-returns-2
 returns-2 c =
     let at-read = c .before .before .before .before in

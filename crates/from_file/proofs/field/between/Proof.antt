@@ -3,18 +3,13 @@ use mathlib.Core.Logic.{inl, inr}
 use mathlib.Core.Path.{refl}
 use Rattle.from_file.proofs.field.between.Statement.{statement}
 use Rattle.from_file.proofs.field.between.Tie as tie
-use Rattle.from_file.proofs.field.between.Reads as reads
-use Rattle.from_file.proofs.field.between.Lts as lts
 
--- src/field.rt:82:9
 returns : tie.Need-returns
 returns c = record { inside = λ e. absurd (omega arith); outside = λ some. (refl, inl (c .if1 .taken)) }
 
--- src/field.rt:85:9
 returns-2 : tie.Need-returns-2
 returns-2 c = record { inside = λ e. absurd (omega arith); outside = λ some. (refl, inr (c .if2 .taken)) }
 
--- src/field.rt:77:1
 returns-3 : tie.Need-returns-3
 returns-3 c = record { inside = λ e. (c .before .if1 .left, c .if2 .left); outside = λ some. absurd (omega arith) }
 

@@ -5,21 +5,15 @@ use mathlib.Core.Path.{refl}
 use borrow.Author.Needs.{needs}
 use Rattle.from_file.proofs.field.byte.Statement.{statement}
 use Rattle.from_file.proofs.field.byte.Tie as tie
-use Rattle.from_file.proofs.field.byte.Reads as reads
-use Rattle.from_file.proofs.field.byte.Lts as lts
-use Rattle.from_file.proofs.field.ranged.Reads as ranged-reads
 
--- src/field.rt:117:5
 ranged-requires : tie.Need-ranged-requires
 ranged-requires c κs =
     let at-pre = c .before .before .before in
     (at-pre .pre .0, (refl, omega arith, omega (arith, at-pre .pre .1), omega arith))
 
--- src/field.rt:112:1
 same-length : tie.Need-same-length
 same-length c = search needs
 
--- src/field.rt:112:1
 returns : tie.Need-returns
 returns c =
     let at-before = c .before in

@@ -1,38 +1,26 @@
 use Rattle.from_file.specs.Way.{way}
 use Rattle.ways.specs.StepLaws.{there-with, there-small, field-asked, not-there}
 use Rattle.ways.specs.Faults.{own-fault}
-use Rattle.ways.specs.Way.{wide}
+use Rattle.ways.specs.Way.{sourceUnits}
 use Rattle.drawing.specs.Fields as F
 use native.Mathlib.Omega.{arith}
 use mathlib.Core.Path.{refl, sym, ap}
 use borrow.Author.Needs.{needs}
 use Rattle.from_file.proofs.field.count.Statement.{statement}
 use Rattle.from_file.proofs.field.count.Tie as tie
-use Rattle.from_file.proofs.field.count.Reads as reads
-use Rattle.from_file.proofs.field.count.Lts as lts
-use Rattle.from_file.proofs.field.count_fault.Reads as count-fault-reads
-use Rattle.from_file.proofs.field.cut.Reads as cut-reads
-use Rattle.from_file.proofs.field.kept.Reads as kept-reads
-use Rattle.from_file.proofs.prims.get.Reads as get-reads
-use Rattle.from_file.proofs.prims.there.Reads as there-reads
 
--- src/field.rt:201:8
 there-requires : tie.Need-there-requires
 there-requires c κs = search needs
 
--- src/field.rt:202:13
 get-requires : tie.Need-get-requires
 get-requires c κs = (refl, c .before .there .ensures .yes (c .if1 .taken))
 
--- src/field.rt:203:64
 cast-count-fault : tie.Need-cast-count-fault
 cast-count-fault c = search needs
 
--- src/field.rt:203:45
 count-fault-requires : tie.Need-count-fault-requires
 count-fault-requires c κs = search needs
 
--- src/field.rt:203:9
 kept-requires : tie.Need-kept-requires
 kept-requires c κs =
     let at-before = c .before in
@@ -43,11 +31,9 @@ kept-requires c κs =
     let here = there-with 4 refl (at-there .there .ensures) (at-if1 .if1 .taken) (at-get .get .ensures) in
     (refl, omega arith, there-small 4 (at-pre .pre) here (omega arith) (omega arith), λ e. omega (arith, here .small))
 
--- src/field.rt:203:9
 same-length : tie.Need-same-length
 same-length c = search needs
 
--- src/field.rt:203:9
 returns : tie.Need-returns
 returns c =
     let at-before = c .before in
@@ -60,17 +46,15 @@ returns c =
     let here = there-with 4 refl (at-there .there .ensures) (at-if1 .if1 .taken) (at-get .get .ensures) in
     record { asks = λ s sized all. field-asked (at-pre .pre) (record { shape = s; fault = F.count (at-pre .args .least) .fault }) sized here (omega arith) (omega arith) (own-fault (record { shape = s; fault = F.count (at-pre .args .least) .fault }) (at-get .get .result) way (omega (arith, all, here .small)) (rw sized (here .small)) (at-count-fault .count-fault .ensures)) (at-kept .kept .ensures .0); small = omega (arith, here .small, at-kept .kept .ensures .1) }
 
--- src/field.rt:205:5
 cut-requires : tie.Need-cut-requires
 cut-requires c κs = search needs
 
--- src/field.rt:197:1
 returns-2 : tie.Need-returns-2
 returns-2 c =
     let at-if1 = c .before in
     let at-there = at-if1 .before in
     let at-pre = at-there .before .before .before in
-    record { asks = λ s sized all. not-there (at-pre .pre) (record { shape = s; fault = F.count (at-pre .args .least) .fault }) (ap (wide way) (sym sized)) (at-there .there .ensures) (at-if1 .if1 .left) (c .cut .ensures .0); small = omega (arith, c .cut .ensures .1) }
+    record { asks = λ s sized all. not-there (at-pre .pre) (record { shape = s; fault = F.count (at-pre .args .least) .fault }) (ap (sourceUnits way) (sym sized)) (at-there .there .ensures) (at-if1 .if1 .left) (c .cut .ensures .0); small = omega (arith, c .cut .ensures .1) }
 
 pub count-spec : {M : Type 1} → statement M
 count-spec =

@@ -3,43 +3,26 @@ use Rattle.ways.specs.StepLaws.{there-with, there-small, field-asked, not-there
 use Rattle.ways.specs.Faults.{own-fault}
 use Rattle.drawing.specs.Fields as F
 use native.Mathlib.Omega.{arith}
-use mathlib.Core.Path.{refl, ap, _∙_}
+use mathlib.Core.Path.{refl}
 use borrow.Author.Needs.{needs}
 use Rattle.from_file.proofs.field.font_size.Statement.{statement}
 use Rattle.from_file.proofs.field.font_size.Tie as tie
-use Rattle.from_file.proofs.field.font_size.Reads as reads
-use Rattle.from_file.proofs.field.font_size.Lts as lts
-use Rattle.fields.proofs.fault.unless.Reads as unless-reads
-use Rattle.fields.proofs.ranges.word_reaches.Reads as word-reaches-reads
-use Rattle.from_file.proofs.field.cut.Reads as cut-reads
-use Rattle.from_file.proofs.field.kept.Reads as kept-reads
-use Rattle.from_file.proofs.prims.get.Reads as get-reads
-use Rattle.from_file.proofs.prims.there.Reads as there-reads
 
--- src/field.rt:223:8
 there-requires : tie.Need-there-requires
 there-requires c κs = search needs
 
--- src/field.rt:224:13
 get-requires : tie.Need-get-requires
 get-requires c κs = (refl, c .before .there .ensures .yes (c .if1 .taken))
 
--- src/field.rt:225:44
-cast-word-reaches : tie.Need-cast-word-reaches
-cast-word-reaches c = search needs
+cast-size-fault : tie.Need-cast-size-fault
+cast-size-fault c = search needs
 
--- src/field.rt:225:28
-word-reaches-requires : tie.Need-word-reaches-requires
-word-reaches-requires c κs = search needs
+size-fault-requires : tie.Need-size-fault-requires
+size-fault-requires c κs = search needs
 
--- src/field.rt:225:13
-unless-requires : tie.Need-unless-requires
-unless-requires c κs = search needs
-
--- src/field.rt:226:9
 kept-requires : tie.Need-kept-requires
 kept-requires c κs =
-    let at-before = c .before .before in
+    let at-before = c .before in
     let at-get = at-before .before in
     let at-if1 = at-get .before in
     let at-there = at-if1 .before in
@@ -47,29 +30,24 @@ kept-requires c κs =
     let here = there-with 4 refl (at-there .there .ensures) (at-if1 .if1 .taken) (at-get .get .ensures) in
     (refl, omega arith, there-small 4 (at-pre .pre) here (omega arith) (omega arith), λ e. omega (arith, here .small))
 
--- src/field.rt:226:9
 same-length : tie.Need-same-length
 same-length c = search needs
 
--- src/field.rt:226:9
 returns : tie.Need-returns
 returns c =
     let at-before = c .before in
     let at-kept = at-before .before in
-    let at-unless = at-kept .before .before in
-    let at-word-reaches = at-unless .before in
-    let at-get = at-word-reaches .before in
+    let at-size-fault = at-kept .before in
+    let at-get = at-size-fault .before .before in
     let at-if1 = at-get .before in
     let at-there = at-if1 .before in
     let at-pre = at-there .before .before .before in
     let here = there-with 4 refl (at-there .there .ensures) (at-if1 .if1 .taken) (at-get .get .ensures) in
-    field-asked (at-pre .pre) F.fontSize refl here (omega arith) (omega arith) (own-fault F.fontSize (at-get .get .result) way (omega (arith, here .small)) (here .small) (at-unless .unless .ensures ∙ ap (λ b. F.unless b 6) (at-word-reaches .word-reaches .ensures))) (at-kept .kept .ensures .0)
+    field-asked (at-pre .pre) F.fontSize refl here (omega arith) (omega arith) (own-fault F.fontSize (at-get .get .result) way (omega (arith, here .small)) (here .small) (at-size-fault .size-fault .ensures)) (at-kept .kept .ensures .0)
 
--- src/field.rt:228:5
 cut-requires : tie.Need-cut-requires
 cut-requires c κs = search needs
 
--- src/field.rt:219:1
 returns-2 : tie.Need-returns-2
 returns-2 c =
     let at-if1 = c .before in
@@ -83,9 +61,8 @@ font-size-spec =
     (tie.spec
     there-requires
     get-requires
-    cast-word-reaches
-    word-reaches-requires
-    unless-requires
+    cast-size-fault
+    size-fault-requires
     kept-requires
     same-length
     returns

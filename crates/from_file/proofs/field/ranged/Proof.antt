@@ -1,42 +1,30 @@
 use Rattle.from_file.specs.Way.{way}
+use Rattle.ways.specs.FieldPassLaws.{value-within}
 use Rattle.ways.specs.StepLaws.{there-with, there-small, field-asked, not-there}
 use Rattle.ways.specs.Faults.{range-fault}
-use Rattle.ways.specs.Way.{wide}
-use Rattle.passes.specs.TargetLaws.{field-size}
+use Rattle.ways.specs.Way.{sourceUnits}
+use Rattle.memory.specs.SizeLaws.{field-size}
 use native.Mathlib.Omega.{arith}
 use mathlib.Core.Path.{refl, sym, ap}
 use borrow.Author.Needs.{needs}
 use Rattle.from_file.proofs.field.ranged.Statement.{statement}
 use Rattle.from_file.proofs.field.ranged.Tie as tie
-use Rattle.from_file.proofs.field.ranged.Reads as reads
-use Rattle.from_file.proofs.field.ranged.Lts as lts
-use Rattle.from_file.proofs.field.between.Reads as between-reads
-use Rattle.from_file.proofs.field.cut.Reads as cut-reads
-use Rattle.from_file.proofs.field.kept.Reads as kept-reads
-use Rattle.from_file.proofs.prims.get.Reads as get-reads
-use Rattle.from_file.proofs.prims.there.Reads as there-reads
 
--- src/field.rt:105:32
 add-there : tie.Need-add-there
 add-there c = search needs
 
--- src/field.rt:105:8
 there-requires : tie.Need-there-requires
 there-requires c κs = search needs
 
--- src/field.rt:106:13
 get-requires : tie.Need-get-requires
 get-requires c κs = (c .before .before .before .before .pre .1 .0, c .before .there .ensures .yes (c .if1 .taken))
 
--- src/field.rt:107:47
 between-requires : tie.Need-between-requires
 between-requires c κs = search needs
 
--- src/field.rt:107:9
 kept-requires : tie.Need-kept-requires
 kept-requires c κs =
-    let at-before = c .before in
-    let at-get = at-before .before in
+    let at-get = c .before .before in
     let at-if1 = at-get .before in
     let at-there = at-if1 .before in
     let at-args = at-there .before .before .before in
@@ -44,15 +32,12 @@ kept-requires c κs =
     let here = there-with (at-args .args .size) refl (at-there .there .ensures) (at-if1 .if1 .taken) (at-get .get .ensures) in
     (at-args .pre .1 .0, sizes .1, there-small (at-args .args .size) (at-args .pre .0) here (sizes .0) (sizes .1), λ e. let i = c .between .ensures .inside e in omega (arith, i .1, at-args .pre .1 .2))
 
--- src/field.rt:107:9
 same-length : tie.Need-same-length
 same-length c = search needs
 
--- src/field.rt:107:9
 returns : tie.Need-returns
 returns c =
-    let at-before = c .before in
-    let at-kept = at-before .before in
+    let at-kept = c .before .before in
     let at-between = at-kept .before in
     let at-get = at-between .before .before in
     let at-if1 = at-get .before in
@@ -60,19 +45,20 @@ returns c =
     let at-args = at-there .before .before .before in
     let sizes = field-size (at-args .args .size) (at-args .pre .1 .0) in
     let here = there-with (at-args .args .size) refl (at-there .there .ensures) (at-if1 .if1 .taken) (at-get .get .ensures) in
-    record { asks = λ k ranged. field-asked (at-args .pre .0) k (ranged .sized) here (sizes .0) (sizes .1) (range-fault way k ranged (at-args .pre .1 .2) (here .small) (at-between .between .ensures)) (at-kept .kept .ensures .0) }
+    record {
+      asks = λ k ranged. field-asked (at-args .pre .0) k (ranged .sized) here (sizes .0) (sizes .1) (range-fault way k ranged (at-args .pre .1 .2) (here .small) (at-between .between .ensures)) (at-kept .kept .ensures .0);
+      small = value-within (at-between .between .ensures) (at-kept .kept .ensures .1) (at-kept .kept .ensures .2);
+    }
 
--- src/field.rt:109:5
 cut-requires : tie.Need-cut-requires
 cut-requires c κs = search needs
 
--- src/field.rt:91:1
 returns-2 : tie.Need-returns-2
 returns-2 c =
     let at-if1 = c .before in
     let at-there = at-if1 .before in
     let at-pre = at-there .before .before .before in
-    record { asks = λ k ranged. not-there (at-pre .pre .0) k (ap (wide way) (sym (ranged .sized))) (at-there .there .ensures) (at-if1 .if1 .left) (c .cut .ensures .0) }
+    record { asks = λ k ranged. not-there (at-pre .pre .0) k (ap (sourceUnits way) (sym (ranged .sized))) (at-there .there .ensures) (at-if1 .if1 .left) (c .cut .ensures .0); small = omega (arith, c .cut .ensures .1) }
 
 pub ranged-spec : {M : Type 1} → statement M
 ranged-spec =

@@ -3,10 +3,7 @@ use Rattle.ways.specs.RunLaws.{exact-small}
 use mathlib.Core.Bool.{false≢true}
 use Rattle.from_file.proofs.prims.has_wide.Statement.{statement}
 use Rattle.from_file.proofs.prims.has_wide.Tie as tie
-use Rattle.from_file.proofs.prims.has_wide.Reads as reads
-use Rattle.from_file.proofs.prims.has_wide.Lts as lts
 
--- src/prims.rt:85:1
 returns : tie.Need-returns
 returns c = record { none = λ e below. exact-small way exact (c .args .size) (c .args .src .now) (c .args .at) (c .args .count) below (c .pre .1); one = λ e. absurd (false≢true e) }
 

@@ -1,7 +1,7 @@
 use Rattle.from_file.specs.Way.{way, unit}
 use Rattle.ways.specs.RunLaws.{run-there, run-wide, run-missing}
 use Rattle.ways.specs.StepLaws.{steps-small}
-use Rattle.passes.specs.FitLaws.{run-size}
+use Rattle.memory.specs.SizeLaws.{run-size}
 use Rattle.format.specs.LeafLaws.{known-below}
 use native.Mathlib.Omega.{arith}
 use native.Mathlib.Nat as Nat
@@ -9,16 +9,7 @@ use Prim.Native.Nat.{_+_, _*_, _/_, _≤_}
 use borrow.Author.Needs.{needs}
 use Rattle.from_file.proofs.run.run.Statement.{statement}
 use Rattle.from_file.proofs.run.run.Tie as tie
-use Rattle.from_file.proofs.run.run.Reads as reads
-use Rattle.from_file.proofs.run.run.Lts as lts
-use Rattle.from_file.proofs.prims.copy.Reads as copy-reads
-use Rattle.from_file.proofs.prims.has_wide.Reads as has-wide-reads
-use Rattle.from_file.proofs.prims.refusal.Reads as refusal-reads
-use Rattle.from_file.proofs.prims.step.Reads as step-reads
-use Rattle.from_file.proofs.prims.there.Reads as there-reads
-use Rattle.from_file.proofs.run.cut_run.Reads as cut-run-reads
 
--- src/run.rt:42:25
 mul-there : tie.Need-mul-there
 mul-there c =
     let at-args = c .before .before in
@@ -26,13 +17,11 @@ mul-there c =
     let few : at-args .args .count * at-args .args .size ≤ at-args .args .count * 8 = Nat.mul-le-mul-left (at-args .args .count) (sizes .1) in
     omega (arith, few, at-args .pre .1 .1)
 
--- src/run.rt:42:41
 add-there : tie.Need-add-there
 add-there c =
     let sizes = run-size (c .before .before .args .size) (c .before .before .pre .1 .0) in
     omega (arith, sizes .1)
 
--- src/run.rt:42:35
 mul-there-2 : tie.Need-mul-there-2
 mul-there-2 c =
     let at-args = c .before .before in
@@ -41,7 +30,6 @@ mul-there-2 c =
     let few-words : at-args .args .count * ((at-args .args .size + 3) / 4) ≤ at-args .args .count * 8 = Nat.mul-le-mul-left (at-args .args .count) words in
     omega (arith, few-words, at-args .pre .1 .1)
 
--- src/run.rt:42:8
 there-requires : tie.Need-there-requires
 there-requires c κs =
     let at-args = c .before .before in
@@ -51,18 +39,15 @@ there-requires c κs =
     let few-words : at-args .args .count * ((at-args .args .size + 3) / 4) ≤ at-args .args .count * 8 = Nat.mul-le-mul-left (at-args .args .count) words in
     omega (arith, few, few-words, at-args .pre .1 .1, at-args .pre .0 .near, at-args .pre .0 .short)
 
--- src/run.rt:43:12
 has-wide-requires : tie.Need-has-wide-requires
 has-wide-requires c κs =
     let at-there = c .before in
     let at-pre = at-there .before .before .before in
     (at-pre .pre .1 .0, at-there .there .ensures .yes (c .if1 .taken), at-pre .pre .0 .short)
 
--- src/run.rt:44:13
 refusal-requires : tie.Need-refusal-requires
 refusal-requires c κs = search needs
 
--- src/run.rt:44:13
 returns : tie.Need-returns
 returns c =
     let at-if2 = c .before in
@@ -74,7 +59,6 @@ returns c =
     let inside = at-there .there .ensures .yes (at-if1 .if1 .taken) in
     rw (c .refusal .ensures) (run-wide way (at-args .args .count) (at-args .pre .0) (sizes .0) inside (at-has-wide .has-wide .ensures .one (at-if2 .if2 .taken)))
 
--- src/run.rt:46:9
 copy-requires : tie.Need-copy-requires
 copy-requires c κs =
     let at-if2 = c .before in
@@ -86,7 +70,6 @@ copy-requires c κs =
     let below = known-below unit (at-args .args .src .now) (at-shared-slice-known .shared-slice-known .given) in
     (at-args .pre .1 .0, at-there .there .ensures .yes (at-if1 .if1 .taken), at-has-wide .has-wide .ensures .none (at-if2 .if2 .left) below)
 
--- src/run.rt:47:9
 step-requires : tie.Need-step-requires
 step-requires c κs =
     let at-before = c .before .before .before .before .before in
@@ -96,11 +79,9 @@ step-requires c κs =
     let sizes = run-size (at-args .args .size) (at-args .pre .1 .0) in
     (sizes .1, steps-small (at-args .args .size) (at-args .args .count) (at-args .pre .0) (at-there .there .ensures .yes (at-if1 .if1 .taken)) (sizes .0) (sizes .1))
 
--- src/run.rt:47:9
 same-length : tie.Need-same-length
 same-length c = search needs
 
--- src/run.rt:47:9
 returns-2 : tie.Need-returns-2
 returns-2 c =
     let at-before = c .before .before in
@@ -116,11 +97,9 @@ returns-2 c =
     let inside = at-there .there .ensures .yes (at-if1 .if1 .taken) in
     rw (c .step .ensures) (run-there way (at-args .args .count) (at-args .pre .0) (sizes .0) (sizes .1) inside (at-has-wide .has-wide .ensures .none (at-if2 .if2 .left) below) (at-copy .copy .ensures))
 
--- src/run.rt:49:5
 cut-run-requires : tie.Need-cut-run-requires
 cut-run-requires c κs = search needs
 
--- src/run.rt:36:1
 returns-3 : tie.Need-returns-3
 returns-3 c =
     let at-if1 = c .before in

@@ -4,19 +4,13 @@ use Rattle.drawing.specs.Fields as F
 use borrow.Author.Needs.{needs}
 use Rattle.from_table.proofs.field.flag.Statement.{statement}
 use Rattle.from_table.proofs.field.flag.Tie as tie
-use Rattle.from_table.proofs.field.flag.Reads as reads
-use Rattle.from_table.proofs.field.flag.Lts as lts
-use Rattle.from_table.proofs.field.ranged.Reads as ranged-reads
 
--- src/field.rt:124:5
 ranged-requires : tie.Need-ranged-requires
 ranged-requires c κs = search needs
 
--- src/field.rt:120:1
 same-length : tie.Need-same-length
 same-length c = search needs
 
--- src/field.rt:120:1
 returns : tie.Need-returns
 returns c = c .before .before .ranged .ensures .asks F.flag flag-ranged
 

@@ -6,19 +6,13 @@ use mathlib.Core.Path.{refl}
 use borrow.Author.Needs.{needs}
 use Rattle.from_table.proofs.field.float.Statement.{statement}
 use Rattle.from_table.proofs.field.float.Tie as tie
-use Rattle.from_table.proofs.field.float.Reads as reads
-use Rattle.from_table.proofs.field.float.Lts as lts
-use Rattle.from_table.proofs.field.ranged.Reads as ranged-reads
 
--- src/field.rt:146:5
 ranged-requires : tie.Need-ranged-requires
 ranged-requires c κs = search needs
 
--- src/field.rt:142:1
 same-length : tie.Need-same-length
 same-length c = search needs
 
--- src/field.rt:142:1
 returns : tie.Need-returns
 returns c = c .before .before .ranged .ensures .asks F.float (any-ranged K.float 4 4294967295 6 refl refl refl)
 

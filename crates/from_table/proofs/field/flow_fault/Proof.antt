@@ -3,18 +3,13 @@ use native.Mathlib.Omega.{arith}
 use borrow.Author.Tests.{le-ltb}
 use Rattle.from_table.proofs.field.flow_fault.Statement.{statement}
 use Rattle.from_table.proofs.field.flow_fault.Tie as tie
-use Rattle.from_table.proofs.field.flow_fault.Reads as reads
-use Rattle.from_table.proofs.field.flow_fault.Lts as lts
 
--- src/field.rt:236:9
 returns : tie.Need-returns
 returns c = rw (c .if1 .taken)
 
--- src/field.rt:239:9
 returns-2 : tie.Need-returns-2
 returns-2 c = rw (c .if2 .taken)
 
--- src/field.rt:232:1
 returns-3 : tie.Need-returns-3
 returns-3 c = rw (le-ltb (c .before .before .args .flow) 2 (omega (arith, c .before .if1 .left, c .if2 .left)))
 

@@ -6,19 +6,13 @@ use mathlib.Core.Path.{refl}
 use borrow.Author.Needs.{needs}
 use Rattle.from_table.proofs.field.integer.Statement.{statement}
 use Rattle.from_table.proofs.field.integer.Tie as tie
-use Rattle.from_table.proofs.field.integer.Reads as reads
-use Rattle.from_table.proofs.field.integer.Lts as lts
-use Rattle.from_table.proofs.field.ranged.Reads as ranged-reads
 
--- src/field.rt:131:5
 ranged-requires : tie.Need-ranged-requires
 ranged-requires c κs = search needs
 
--- src/field.rt:127:1
 same-length : tie.Need-same-length
 same-length c = search needs
 
--- src/field.rt:127:1
 returns : tie.Need-returns
 returns c = c .before .before .ranged .ensures .asks F.integer (any-ranged K.integer 4 4294967295 6 refl refl refl)
 

@@ -4,19 +4,13 @@ use Rattle.drawing.specs.Fields as F
 use borrow.Author.Needs.{needs}
 use Rattle.from_table.proofs.field.integer_to.Statement.{statement}
 use Rattle.from_table.proofs.field.integer_to.Tie as tie
-use Rattle.from_table.proofs.field.integer_to.Reads as reads
-use Rattle.from_table.proofs.field.integer_to.Lts as lts
-use Rattle.from_table.proofs.field.ranged.Reads as ranged-reads
 
--- src/field.rt:139:5
 ranged-requires : tie.Need-ranged-requires
 ranged-requires c κs = search needs
 
--- src/field.rt:134:1
 same-length : tie.Need-same-length
 same-length c = search needs
 
--- src/field.rt:134:1
 returns : tie.Need-returns
 returns c =
     let at-before = c .before in

@@ -1,44 +1,33 @@
 -- Made by tools/ways from crates/from_file.
-use native.Mathlib.Omega.{arith}
 use mathlib.Core.Path.{refl}
+use native.Mathlib.Omega.{arith}
 use borrow.Author.Needs.{needs}
 use Rattle.from_table.proofs.field.kept.Statement.{statement}
 use Rattle.from_table.proofs.field.kept.Tie as tie
-use Rattle.from_table.proofs.field.kept.Reads as reads
-use Rattle.from_table.proofs.field.kept.Lts as lts
-use Rattle.from_table.proofs.field.refused.Reads as refused-reads
-use Rattle.from_table.proofs.prims.put.Reads as put-reads
-use Rattle.from_table.proofs.prims.step.Reads as step-reads
 
--- src/field.rt:53:13
 refused-requires : tie.Need-refused-requires
 refused-requires c κs = search needs
 
--- src/field.rt:54:9
 returns : tie.Need-returns
-returns c = (record { good = λ e. absurd (c .before .if1 .taken e); bad = λ some. (refl, c .refused .ensures) }, omega arith)
+returns c = (record { good = λ e. absurd (c .before .if1 .taken e); bad = λ some. (refl, c .refused .ensures) }, omega arith, λ some. refl)
 
--- src/field.rt:59:5
 put-requires : tie.Need-put-requires
 put-requires c κs =
     let at-if1 = c .before in
     let at-pre = at-if1 .before .before in
     (omega (arith, at-pre .pre .2 .to-small), at-pre .pre .0, at-pre .pre .3 (at-if1 .if1 .left))
 
--- src/field.rt:60:9
 step-requires : tie.Need-step-requires
 step-requires c κs = search needs
 
--- src/field.rt:48:1
 same-length : tie.Need-same-length
 same-length c = search needs
 
--- src/field.rt:48:1
 returns-2 : tie.Need-returns-2
 returns-2 c =
     let at-put = c .before .before .before in
     let at-if1 = at-put .before .before in
-    (record { good = λ e. (at-put .put .ensures, rw (c .step .ensures)); bad = λ some. absurd (omega (arith, some, at-if1 .if1 .left)) }, omega arith)
+    (record { good = λ e. (at-put .put .ensures, rw (c .step .ensures)); bad = λ some. absurd (omega (arith, some, at-if1 .if1 .left)) }, omega arith, λ some. absurd (omega (arith, some, at-if1 .if1 .left)))
 
 pub kept-spec : {M : Type 1} → statement M
 kept-spec =

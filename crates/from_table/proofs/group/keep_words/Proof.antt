@@ -3,7 +3,7 @@ use Rattle.from_table.specs.Way.{way, unit}
 use Rattle.ways.specs.declared.Pass.{Pass}
 use Rattle.ways.specs.Moves.{Moved, moved-none, moved-both}
 use Rattle.ways.specs.Passes.{stepped-ready}
-use Rattle.ways.specs.Way.{wide}
+use Rattle.ways.specs.Way.{sourceUnits}
 use Rattle.format.specs.LeafLaws.{field-below, known-below}
 use lib.ListN.{length}
 use native.Mathlib.Omega.{arith}
@@ -11,9 +11,6 @@ use Prim.Native.Nat.{_+_, _-_, _*_, _≤_}
 use mathlib.Core.Path.{_≡_, refl, ap, _∙_}
 use Rattle.from_table.proofs.group.keep_words.Statement.{statement}
 use Rattle.from_table.proofs.group.keep_words.Tie as tie
-use Rattle.from_table.proofs.group.keep_words.Reads as reads
-use Rattle.from_table.proofs.group.keep_words.Lts as lts
-use Rattle.from_table.proofs.group.keep.Reads as keep-reads
 
 abbrev Inv-loop : tie.InvT-loop
 Inv-loop src dst₀ at to count behind₀ left₀ dst behind left = Moved way 4 (count - left) src dst₀ dst at to behind × (left ≤ count) × (length dst ≡ length dst₀)
@@ -21,14 +18,12 @@ Inv-loop src dst₀ at to count behind₀ left₀ dst behind left = Moved way 4 
 abbrev μ-loop : tie.MeasureT-loop
 μ-loop src dst₀ at to count behind₀ left₀ dst behind left = left
 
--- src/group.rt:36:5
 loop-holds : tie.Need-loop-holds Inv-loop μ-loop
 loop-holds c =
     let at-args = c .before .before in
     let none : at-args .args .count - at-args .args .count ≡ 0 = omega arith in
     (rw none (moved-none way 4 (at-args .args .src .now)), omega arith, refl)
 
--- src/group.rt:37:9
 keep-requires : tie.Need-keep-requires Inv-loop μ-loop
 keep-requires c κs =
     let at-loop-test = c .before in
@@ -36,20 +31,17 @@ keep-requires c κs =
     let at-shared-slice-known = at-loop .before .before in
     let at-args = at-shared-slice-known .before in
     let done = at-loop .loop .inv .0 in
-    let at-is : at-loop .loop .behind .at ≡ at-args .args .at + (at-args .args .count - at-loop .loop .left) * wide way 4 = ap (λ (q : Pass). q .at) (done .is) in
-    let some : at-args .args .at + (at-args .args .count - at-loop .loop .left) * wide way 4 ≤ length (at-args .args .src .now) = omega (arith, at-args .pre .1) in
-    let inside : at-loop .loop .behind .at + wide way 4 ≤ length (at-args .args .src .now) = omega (arith, at-is, at-args .pre .1, at-loop .loop .inv .1, at-loop-test .loop-test .taken) in
-    (rw (done .is) (stepped-ready way 4 (at-args .args .count - at-loop .loop .left) (at-args .pre .0) some (omega arith) (omega arith)), (refl, inside, field-below (way .source .base) (at-args .args .src .now) (at-loop .loop .behind .at) (wide way 4) inside (known-below unit (at-args .args .src .now) (at-shared-slice-known .shared-slice-known .given))))
+    let at-is : at-loop .loop .behind .at ≡ at-args .args .at + (at-args .args .count - at-loop .loop .left) * sourceUnits way 4 = ap (λ (q : Pass). q .at) (done .is) in
+    let some : at-args .args .at + (at-args .args .count - at-loop .loop .left) * sourceUnits way 4 ≤ length (at-args .args .src .now) = omega (arith, at-args .pre .1) in
+    let inside : at-loop .loop .behind .at + sourceUnits way 4 ≤ length (at-args .args .src .now) = omega (arith, at-is, at-args .pre .1, at-loop .loop .inv .1, at-loop-test .loop-test .taken) in
+    (rw (done .is) (stepped-ready way 4 (at-args .args .count - at-loop .loop .left) (at-args .pre .0) some (omega arith) (omega arith)), (refl, inside, field-below (way .source .base) (at-args .args .src .now) (at-loop .loop .behind .at) (sourceUnits way 4) inside (known-below unit (at-args .args .src .now) (at-shared-slice-known .shared-slice-known .given))))
 
--- src/group.rt:38:16
 sub-left : tie.Need-sub-left Inv-loop μ-loop
 sub-left c = omega (arith, c .before .before .before .before .loop-test .taken)
 
--- src/group.rt:36:5
 loop-less : tie.Need-loop-less Inv-loop μ-loop
 loop-less c = omega (arith, c .before .before .before .before .loop-test .taken)
 
--- src/group.rt:36:5
 loop-again : tie.Need-loop-again Inv-loop μ-loop
 loop-again c =
     let at-dst = c .before in
@@ -60,11 +52,9 @@ loop-again c =
     let next : at-args .args .count - at-loop .loop .left + 1 ≡ at-args .args .count - (at-loop .loop .left - 1) = omega (arith, at-loop .loop .inv .1, at-loop-test .loop-test .taken) in
     (rw (← next) (moved-both way 4 (at-args .args .src .now) (at-loop .loop .inv .0) (at-keep .keep .ensures)), omega (arith, at-loop .loop .inv .1), at-dst .dst .given ∙ at-loop .loop .inv .2)
 
--- src/group.rt:29:1
 same-length : tie.Need-same-length Inv-loop μ-loop
 same-length c = c .before .loop .inv .2
 
--- src/group.rt:29:1
 returns : tie.Need-returns Inv-loop μ-loop
 returns c =
     let at-loop = c .before in

@@ -3,18 +3,13 @@ use native.Mathlib.Omega.{arith}
 use mathlib.Core.Bool.{false≢true, true≢false}
 use Rattle.from_table.proofs.prims.has_wide.Statement.{statement}
 use Rattle.from_table.proofs.prims.has_wide.Tie as tie
-use Rattle.from_table.proofs.prims.has_wide.Reads as reads
-use Rattle.from_table.proofs.prims.has_wide.Lts as lts
-use Rattle.passes.proofs.runs.all_chars.Reads as all-chars-reads
 
--- src/prims.rt:93:12
 all-chars-requires : tie.Need-all-chars-requires
 all-chars-requires c κs =
     let at-args = c .before .before in
     let there = chars-there (at-args .args .size) (at-args .args .src .now) (at-args .args .at) (at-args .args .count) (c .if1 .taken) (at-args .pre .1) in
-    (omega (arith, there), at-args .pre .2)
+    omega (arith, there)
 
--- src/prims.rt:94:13
 returns : tie.Need-returns
 returns c =
     let at-all-chars = c .before in
@@ -22,7 +17,6 @@ returns c =
     let at-args = at-if1 .before .before in
     record { none = λ e below. small-chars (at-args .args .size) (at-args .args .src .now) (at-args .args .at) (at-args .args .count) (at-if1 .if1 .taken) (at-args .pre .1) (at-all-chars .all-chars .ensures .all (c .if2 .taken)); one = λ e. absurd (false≢true e) }
 
--- src/prims.rt:96:9
 returns-2 : tie.Need-returns-2
 returns-2 c =
     let at-all-chars = c .before in
@@ -30,7 +24,6 @@ returns-2 c =
     let at-args = at-if1 .before .before in
     record { none = λ e. absurd (true≢false e); one = λ e. (blind, large-char (at-args .args .size) (at-args .args .src .now) (at-args .args .at) (at-args .args .count) (at-if1 .if1 .taken) (at-args .pre .1) (at-all-chars .all-chars .ensures .not-all (c .if2 .left))) }
 
--- src/prims.rt:88:1
 returns-3 : tie.Need-returns-3
 returns-3 c =
     let at-args = c .before .before in

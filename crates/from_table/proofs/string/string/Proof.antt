@@ -5,36 +5,26 @@ use mathlib.Core.Path.{refl}
 use borrow.Author.Needs.{needs}
 use Rattle.from_table.proofs.string.string.Statement.{statement}
 use Rattle.from_table.proofs.string.string.Tie as tie
-use Rattle.from_table.proofs.string.string.Reads as reads
-use Rattle.from_table.proofs.string.string.Lts as lts
-use Rattle.from_table.proofs.field.count.Reads as count-reads
-use Rattle.from_table.proofs.run.chars.Reads as chars-reads
 
--- src/string.rt:14:9
 count-requires : tie.Need-count-requires
 count-requires c κs = search needs
 
--- src/string.rt:19:9
 same-length : tie.Need-same-length
 same-length c = search needs
 
--- src/string.rt:19:9
 returns : tie.Need-returns
 returns c =
     let counted = c .before .before .before .before .count .ensures .asks K.stringLength refl refl in
     laid (told counted (record { carried = rw (c .if1 .taken) (came-nowhere (counted .ready)) }))
 
--- src/string.rt:21:5
 chars-requires : tie.Need-chars-requires
 chars-requires c κs =
     let at-count = c .before .before .before .before .before in
     (at-count .count .ensures .asks K.stringLength refl refl .ready, at-count .count .ensures .small)
 
--- src/string.rt:10:1
 same-length-2 : tie.Need-same-length-2
 same-length-2 c = search needs
 
--- src/string.rt:10:1
 returns-2 : tie.Need-returns-2
 returns-2 c =
     let at-before = c .before in

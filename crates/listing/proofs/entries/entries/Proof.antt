@@ -20,7 +20,7 @@ abbrev μ-loop : tie.MeasureT-loop
 loop-holds : tie.Need-loop-holds Inv-loop μ-loop
 loop-holds c =
     let at-pre = c .before .before .before .before in
-    record { table = at-pre .pre; gathering = gather-none (at-pre .pre) (at-pre .args .label .now) (at-pre .args .list .now); most = omega arith }
+    record { table = at-pre .pre; gathering = gather-none (at-pre .pre) (at-pre .args .label .now) (at-pre .args .room .now); most = omega arith }
 
 is-labelled-requires : tie.Need-is-labelled-requires Inv-loop μ-loop
 is-labelled-requires c κs = row-here (c .before .loop .inv .table) (c .before .loop .row) (c .loop-test .taken)

@@ -1,10 +1,10 @@
 -- `listing::label::is_labelled` meets its contract.
-use Prim.Native.Nat.{_+_, _-_, _*_}
-use lib.ListN.{length, getD}
-use native.Mathlib.Omega.{arith}
-use mathlib.Core.Path.{sym, _∙_}
-use Rattle.places.specs.EndLaws.{described, some-description}
 use Rattle.listing.specs.LabelLaws.{label-early, too-long, other-number, other-chars, told-by-place}
+use Rattle.places.specs.EndLaws.{described, some-description}
+use mathlib.Core.Path.{sym, _∙_}
+use native.Mathlib.Omega.{arith}
+use lib.ListN.{length}
+use Prim.Native.Nat.{_+_, _-_}
 use borrow.Author.Needs.{needs}
 use Rattle.listing.proofs.label.is_labelled.Statement.{statement}
 use Rattle.listing.proofs.label.is_labelled.Tie as tie
@@ -13,47 +13,26 @@ use Rattle.listing.proofs.label.is_labelled.Lts as lts
 use Rattle.listing.proofs.label.same_chars.Reads as same-chars-reads
 use Rattle.places.proofs.behind.behind.Reads as behind-reads
 use Rattle.places.proofs.end.end_of.Reads as end-of-reads
+use Rattle.rows.proofs.look.size_in.Reads as size-in-reads
+use Rattle.rows.proofs.look.start_in.Reads as start-in-reads
 
 returns : tie.Need-returns
 returns c =
     let at-args = c .before .before .before .before in
     λ o body. label-early (at-args .args .contents .now) (at-args .args .words .now) (at-args .args .version) (at-args .args .row) (at-args .args .label .now) (c .if1 .taken) o body
 
-mul-start : tie.Need-mul-start
-mul-start c = search needs
+start-in-requires : tie.Need-start-in-requires
+start-in-requires c κs = search needs
 
-add-start : tie.Need-add-start
-add-start c = search needs
-
-mul-start-2 : tie.Need-mul-start-2
-mul-start-2 c = search needs
-
-shared-slice-read-start : tie.Need-shared-slice-read-start
-shared-slice-read-start c = search needs
-
-cast-start : tie.Need-cast-start
-cast-start c = search needs
-
-mul-size : tie.Need-mul-size
-mul-size c = search needs
-
-add-size : tie.Need-add-size
-add-size c = search needs
-
-mul-size-2 : tie.Need-mul-size-2
-mul-size-2 c = search needs
-
-shared-slice-read-size : tie.Need-shared-slice-read-size
-shared-slice-read-size c = search needs
-
-cast-size : tie.Need-cast-size
-cast-size c = search needs
+size-in-requires : tie.Need-size-in-requires
+size-in-requires c κs = search needs
 
 returns-2 : tie.Need-returns-2
 returns-2 c =
-    let at-if1 = c .before .before .before in
+    let at-size-in = c .before in
+    let at-if1 = at-size-in .before .before in
     let at-args = at-if1 .before .before .before .before in
-    λ o body. too-long (at-args .args .contents .now) (at-args .args .words .now) (at-args .args .version) (at-args .args .row) (at-args .args .label .now) o (some-description (at-args .args .contents .now) (at-args .args .words .now) (at-args .args .version) (at-args .args .row) (omega (arith, at-if1 .if1 .left)) o body .1) (omega (arith, body .size-is, c .if2 .taken))
+    λ o body. too-long (at-args .args .contents .now) (at-args .args .words .now) (at-args .args .version) (at-args .args .row) (at-args .args .label .now) o (some-description (at-args .args .contents .now) (at-args .args .words .now) (at-args .args .version) (at-args .args .row) (omega (arith, at-if1 .if1 .left)) o body .1) (omega (arith, body .size-is, c .if2 .taken, at-size-in .size-in .ensures))
 
 add-from : tie.Need-add-from
 add-from c = search needs
@@ -72,15 +51,19 @@ shared-slice-read-if3 c = search needs
 
 cast-if3 : tie.Need-cast-if3
 cast-if3 c =
-    let at-args = c .before .before .before .before .before .before .before .before in
-    let fit = c .shared-slice-known6 .given ((getD (at-args .args .contents .now) (4 * at-args .args .row + 2) 0 + getD (at-args .args .contents .now) (4 * at-args .args .row + 3) 0 - length (at-args .args .label .now)) - 1) in omega (arith, fit)
+    let at-size-in = c .before .before in
+    let at-start-in = at-size-in .before in
+    let at-args = at-start-in .before .before .before .before .before in
+    let fit = c .shared-slice-known4 .given (at-start-in .start-in .result + at-size-in .size-in .result - length (at-args .args .label .now) - 1) in omega (arith, fit)
 
 returns-3 : tie.Need-returns-3
 returns-3 c =
     let at-if2 = c .before .before in
-    let at-if1 = at-if2 .before .before .before in
+    let at-size-in = at-if2 .before in
+    let at-start-in = at-size-in .before in
+    let at-if1 = at-start-in .before in
     let at-args = at-if1 .before .before .before .before in
-    λ o body. other-number (at-args .args .contents .now) (at-args .args .words .now) (at-args .args .version) (at-args .args .row) (at-args .args .label .now) o (some-description (at-args .args .contents .now) (at-args .args .words .now) (at-args .args .version) (at-args .args .row) (omega (arith, at-if1 .if1 .left)) o body .1) (getD (at-args .args .contents .now) (4 * at-args .args .row + 2) 0 + getD (at-args .args .contents .now) (4 * at-args .args .row + 3) 0 - length (at-args .args .label .now)) (omega (arith, body .size-is, at-if2 .if2 .left)) (c .if3 .taken)
+    λ o body. other-number (at-args .args .contents .now) (at-args .args .words .now) (at-args .args .version) (at-args .args .row) (at-args .args .label .now) o (some-description (at-args .args .contents .now) (at-args .args .words .now) (at-args .args .version) (at-args .args .row) (omega (arith, at-if1 .if1 .left)) o body .1) (at-start-in .start-in .result + at-size-in .size-in .result - length (at-args .args .label .now)) (omega (arith, body .size-is, at-if2 .if2 .left, at-start-in .start-in .ensures, at-size-in .size-in .ensures)) (c .if3 .taken)
 
 same-chars-requires : tie.Need-same-chars-requires
 same-chars-requires c κs = search needs
@@ -102,33 +85,29 @@ returns-4 c =
     let at-if4 = at-end-of .before in
     let at-same-chars = at-if4 .before in
     let at-if2 = at-same-chars .before .before .before in
-    let at-if1 = at-if2 .before .before .before in
+    let at-size-in = at-if2 .before in
+    let at-start-in = at-size-in .before in
+    let at-if1 = at-start-in .before in
     let at-args = at-if1 .before .before .before .before in
-    λ o body. told-by-place (at-args .args .contents .now) (at-args .args .words .now) (at-args .args .version) (at-args .args .row) (at-args .args .label .now) o (described (at-args .args .contents .now) (at-args .args .words .now) (at-args .args .version) (at-args .args .row) (omega (arith, at-if1 .if1 .left)) o (at-end-of .end-of .ensures o body) (c .behind .ensures .is)) (getD (at-args .args .contents .now) (4 * at-args .args .row + 2) 0 + getD (at-args .args .contents .now) (4 * at-args .args .row + 3) 0 - length (at-args .args .label .now)) (omega (arith, body .size-is, at-if2 .if2 .left)) (sym (at-same-chars .same-chars .ensures) ∙ at-if4 .if4 .taken)
+    λ o body. told-by-place (at-args .args .contents .now) (at-args .args .words .now) (at-args .args .version) (at-args .args .row) (at-args .args .label .now) o (described (at-args .args .contents .now) (at-args .args .words .now) (at-args .args .version) (at-args .args .row) (omega (arith, at-if1 .if1 .left)) o (at-end-of .end-of .ensures o body) (c .behind .ensures .is)) (at-start-in .start-in .result + at-size-in .size-in .result - length (at-args .args .label .now)) (omega (arith, body .size-is, at-if2 .if2 .left, at-start-in .start-in .ensures, at-size-in .size-in .ensures)) (sym (at-same-chars .same-chars .ensures) ∙ at-if4 .if4 .taken)
 
 returns-5 : tie.Need-returns-5
 returns-5 c =
     let at-same-chars = c .before in
     let at-if2 = at-same-chars .before .before .before in
-    let at-if1 = at-if2 .before .before .before in
+    let at-size-in = at-if2 .before in
+    let at-start-in = at-size-in .before in
+    let at-if1 = at-start-in .before in
     let at-args = at-if1 .before .before .before .before in
-    λ o body. other-chars (at-args .args .contents .now) (at-args .args .words .now) (at-args .args .version) (at-args .args .row) (at-args .args .label .now) o (some-description (at-args .args .contents .now) (at-args .args .words .now) (at-args .args .version) (at-args .args .row) (omega (arith, at-if1 .if1 .left)) o body .1) (getD (at-args .args .contents .now) (4 * at-args .args .row + 2) 0 + getD (at-args .args .contents .now) (4 * at-args .args .row + 3) 0 - length (at-args .args .label .now)) (omega (arith, body .size-is, at-if2 .if2 .left)) (sym (at-same-chars .same-chars .ensures) ∙ c .if4 .left)
+    λ o body. other-chars (at-args .args .contents .now) (at-args .args .words .now) (at-args .args .version) (at-args .args .row) (at-args .args .label .now) o (some-description (at-args .args .contents .now) (at-args .args .words .now) (at-args .args .version) (at-args .args .row) (omega (arith, at-if1 .if1 .left)) o body .1) (at-start-in .start-in .result + at-size-in .size-in .result - length (at-args .args .label .now)) (omega (arith, body .size-is, at-if2 .if2 .left, at-start-in .start-in .ensures, at-size-in .size-in .ensures)) (sym (at-same-chars .same-chars .ensures) ∙ c .if4 .left)
 
 pub is-labelled-spec : {M : Type 1} → statement M
 is-labelled-spec =
     tie.close
     (tie.spec
     returns
-    mul-start
-    add-start
-    mul-start-2
-    shared-slice-read-start
-    cast-start
-    mul-size
-    add-size
-    mul-size-2
-    shared-slice-read-size
-    cast-size
+    start-in-requires
+    size-in-requires
     returns-2
     add-from
     sub-from

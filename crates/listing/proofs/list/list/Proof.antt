@@ -19,7 +19,7 @@ returns c =
     let at-check = c .before .before in
     let at-shared-slice-known2 = at-check .before .before .before in
     let at-args = at-shared-slice-known2 .before .before in
-    list-refused (known-below w32 (at-args .args .words .now) (at-shared-slice-known2 .shared-slice-known2 .given)) (at-check .check .ensures) (at-args .args .label .now) (at-args .args .list .now) (c .if1 .taken)
+    list-refused (known-below w32 (at-args .args .words .now) (at-shared-slice-known2 .shared-slice-known2 .given)) (at-check .check .ensures) (at-args .args .label .now) (at-args .args .room .now) (c .if1 .taken)
 
 cast-rows : tie.Need-cast-rows
 cast-rows c = search needs
@@ -30,7 +30,7 @@ shared-slice-read-version c =
     let at-check = at-if1 .before .before in
     let at-shared-slice-known2 = at-check .before .before .before in
     let at-args = at-shared-slice-known2 .before .before in
-    some-word (known-below w32 (at-args .args .words .now) (at-shared-slice-known2 .shared-slice-known2 .given)) (at-check .check .ensures) (at-args .args .label .now) (at-args .args .list .now) (at-if1 .if1 .left)
+    some-word (known-below w32 (at-args .args .words .now) (at-shared-slice-known2 .shared-slice-known2 .given)) (at-check .check .ensures) (at-args .args .label .now) (at-args .args .room .now) (at-if1 .if1 .left)
 
 entries-requires : tie.Need-entries-requires
 entries-requires c κs =
@@ -38,16 +38,16 @@ entries-requires c κs =
     let at-check = at-if1 .before .before in
     let at-shared-slice-known2 = at-check .before .before .before in
     let at-args = at-shared-slice-known2 .before .before in
-    table-here (known-below w32 (at-args .args .words .now) (at-shared-slice-known2 .shared-slice-known2 .given)) (at-check .check .ensures) (at-args .args .label .now) (at-args .args .list .now) (at-if1 .if1 .left)
+    table-here (known-below w32 (at-args .args .words .now) (at-shared-slice-known2 .shared-slice-known2 .given)) (at-check .check .ensures) (at-args .args .label .now) (at-args .args .room .now) (at-if1 .if1 .left)
 
-cast-t17 : tie.Need-cast-t17
-cast-t17 c =
+cast-t27 : tie.Need-cast-t27
+cast-t27 c =
     let at-entries = c .before .before in
     let at-if1 = at-entries .before .before .before .before .before in
     let at-check = at-if1 .before .before in
     let at-shared-slice-known2 = at-check .before .before .before in
     let at-args = at-shared-slice-known2 .before .before in
-    omega (arith, count-small (known-below w32 (at-args .args .words .now) (at-shared-slice-known2 .shared-slice-known2 .given)) (at-check .check .ensures) (at-args .args .label .now) (at-args .args .list .now) (at-if1 .if1 .left) (at-entries .entries .ensures))
+    omega (arith, count-small (known-below w32 (at-args .args .words .now) (at-shared-slice-known2 .shared-slice-known2 .given)) (at-check .check .ensures) (at-args .args .label .now) (at-args .args .room .now) (at-if1 .if1 .left) (at-entries .entries .ensures))
 
 same-length : tie.Need-same-length
 same-length c = search needs
@@ -60,7 +60,7 @@ returns-2 c =
     let at-check = at-if1 .before .before in
     let at-shared-slice-known2 = at-check .before .before .before in
     let at-args = at-shared-slice-known2 .before .before in
-    list-stored-at-once (known-below w32 (at-args .args .words .now) (at-shared-slice-known2 .shared-slice-known2 .given)) (at-check .check .ensures) (at-args .args .label .now) (at-args .args .list .now) (at-if1 .if1 .left) (omega (arith, at-if2 .if2 .taken)) (at-entries .entries .ensures)
+    list-stored-at-once (known-below w32 (at-args .args .words .now) (at-shared-slice-known2 .shared-slice-known2 .given)) (at-check .check .ensures) (at-args .args .label .now) (at-args .args .room .now) (at-if1 .if1 .left) (omega (arith, at-if2 .if2 .taken)) (at-entries .entries .ensures)
 
 slice-aggregate-entries : tie.Need-slice-aggregate-entries
 slice-aggregate-entries c = search needs
@@ -71,16 +71,16 @@ entries-requires-2 c κs =
     let at-check = at-if1 .before .before in
     let at-shared-slice-known2 = at-check .before .before .before in
     let at-args = at-shared-slice-known2 .before .before in
-    table-here (known-below w32 (at-args .args .words .now) (at-shared-slice-known2 .shared-slice-known2 .given)) (at-check .check .ensures) (at-args .args .label .now) (at-args .args .list .now) (at-if1 .if1 .left)
+    table-here (known-below w32 (at-args .args .words .now) (at-shared-slice-known2 .shared-slice-known2 .given)) (at-check .check .ensures) (at-args .args .label .now) (at-args .args .room .now) (at-if1 .if1 .left)
 
-cast-t20 : tie.Need-cast-t20
-cast-t20 c =
+cast-t36 : tie.Need-cast-t36
+cast-t36 c =
     let at-entries2 = c .before .before in
     let at-if1 = at-entries2 .before .before .before .before .before in
     let at-check = at-if1 .before .before in
     let at-shared-slice-known2 = at-check .before .before .before in
     let at-args = at-shared-slice-known2 .before .before in
-    omega (arith, count-small (known-below w32 (at-args .args .words .now) (at-shared-slice-known2 .shared-slice-known2 .given)) (at-check .check .ensures) (at-args .args .label .now) (at-args .args .list .now) (at-if1 .if1 .left) (at-entries2 .entries2 .ensures))
+    omega (arith, count-small (known-below w32 (at-args .args .words .now) (at-shared-slice-known2 .shared-slice-known2 .given)) (at-check .check .ensures) (at-args .args .label .now) (at-args .args .room .now) (at-if1 .if1 .left) (at-entries2 .entries2 .ensures))
 
 returns-3 : tie.Need-returns-3
 returns-3 c =
@@ -89,7 +89,7 @@ returns-3 c =
     let at-check = at-if1 .before .before in
     let at-shared-slice-known2 = at-check .before .before .before in
     let at-args = at-shared-slice-known2 .before .before in
-    list-short (known-below w32 (at-args .args .words .now) (at-shared-slice-known2 .shared-slice-known2 .given)) (at-check .check .ensures) (at-args .args .label .now) (at-args .args .list .now) (at-if1 .if1 .left) (at-entries2 .entries2 .ensures) (c .if3 .taken)
+    list-short (known-below w32 (at-args .args .words .now) (at-shared-slice-known2 .shared-slice-known2 .given)) (at-check .check .ensures) (at-args .args .label .now) (at-args .args .room .now) (at-if1 .if1 .left) (at-entries2 .entries2 .ensures) (c .if3 .taken)
 
 entries-requires-3 : tie.Need-entries-requires-3
 entries-requires-3 c κs =
@@ -97,10 +97,10 @@ entries-requires-3 c κs =
     let at-check = at-if1 .before .before in
     let at-shared-slice-known2 = at-check .before .before .before in
     let at-args = at-shared-slice-known2 .before .before in
-    table-here (known-below w32 (at-args .args .words .now) (at-shared-slice-known2 .shared-slice-known2 .given)) (at-check .check .ensures) (at-args .args .label .now) (at-args .args .list .now) (at-if1 .if1 .left)
+    table-here (known-below w32 (at-args .args .words .now) (at-shared-slice-known2 .shared-slice-known2 .given)) (at-check .check .ensures) (at-args .args .label .now) (at-args .args .room .now) (at-if1 .if1 .left)
 
-cast-t13 : tie.Need-cast-t13
-cast-t13 c = search needs
+cast-t17 : tie.Need-cast-t17
+cast-t17 c = search needs
 
 same-length-2 : tie.Need-same-length-2
 same-length-2 c = search needs
@@ -114,7 +114,7 @@ returns-4 c =
     let at-check = at-if1 .before .before in
     let at-shared-slice-known2 = at-check .before .before .before in
     let at-args = at-shared-slice-known2 .before .before in
-    list-stored (known-below w32 (at-args .args .words .now) (at-shared-slice-known2 .shared-slice-known2 .given)) (at-check .check .ensures) (at-args .args .label .now) (at-args .args .list .now) (at-if1 .if1 .left) (at-entries2 .entries2 .ensures) (λ short. omega (arith, short, at-if3 .if3 .left)) (at-entries3 .entries3 .ensures)
+    list-stored (known-below w32 (at-args .args .words .now) (at-shared-slice-known2 .shared-slice-known2 .given)) (at-check .check .ensures) (at-args .args .label .now) (at-args .args .room .now) (at-if1 .if1 .left) (at-entries2 .entries2 .ensures) (λ short. omega (arith, short, at-if3 .if3 .left)) (at-entries3 .entries3 .ensures)
 
 pub list-spec : {M : Type 1} → statement M
 list-spec =
@@ -125,14 +125,14 @@ list-spec =
     cast-rows
     shared-slice-read-version
     entries-requires
-    cast-t17
+    cast-t27
     same-length
     returns-2
     slice-aggregate-entries
     entries-requires-2
-    cast-t20
+    cast-t36
     returns-3
     entries-requires-3
-    cast-t13
+    cast-t17
     same-length-2
     returns-4)

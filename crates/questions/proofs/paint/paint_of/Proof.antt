@@ -1,36 +1,21 @@
 -- `questions::paint::paint_of` meets its contract.
+use mathlib.Core.Path.{sym, _∙_}
 use Rattle.questions.specs.PaintQuestionLaws.{painted-holds, line-painted, fill-painted, text-painted, no-path, no-text, no-paint, paint-answered}
 use borrow.Author.Needs.{needs}
 use Rattle.questions.proofs.paint.paint_of.Statement.{statement}
 use Rattle.questions.proofs.paint.paint_of.Tie as tie
 use Rattle.questions.proofs.paint.paint_of.Reads as reads
 use Rattle.questions.proofs.paint.paint_of.Lts as lts
-use Rattle.questions.proofs.paint_words.paint_at.Reads as paint-at-reads
 use Rattle.places.proofs.behind.behind.Reads as behind-reads
+use Rattle.questions.proofs.paint_words.paint_at.Reads as paint-at-reads
+use Rattle.rows.proofs.look.kind_in.Reads as kind-in-reads
+use Rattle.rows.proofs.look.start_in.Reads as start-in-reads
 
-mul-kind : tie.Need-mul-kind
-mul-kind c = search needs
+kind-in-requires : tie.Need-kind-in-requires
+kind-in-requires c κs = search needs
 
-mul-kind-2 : tie.Need-mul-kind-2
-mul-kind-2 c = search needs
-
-shared-slice-read-kind : tie.Need-shared-slice-read-kind
-shared-slice-read-kind c = search needs
-
-mul-start : tie.Need-mul-start
-mul-start c = search needs
-
-add-start : tie.Need-add-start
-add-start c = search needs
-
-mul-start-2 : tie.Need-mul-start-2
-mul-start-2 c = search needs
-
-shared-slice-read-start : tie.Need-shared-slice-read-start
-shared-slice-read-start c = search needs
-
-cast-start : tie.Need-cast-start
-cast-start c = search needs
+start-in-requires : tie.Need-start-in-requires
+start-in-requires c κs = search needs
 
 enum-told : tie.Need-enum-told
 enum-told c = search needs
@@ -38,20 +23,25 @@ enum-told c = search needs
 returns : tie.Need-returns
 returns c =
     let at-enum-told = c .before in
-    let at-args = at-enum-told .before .before .before .before .before .before in
-    λ o row. no-paint (at-args .args .contents .now) (at-args .args .words .now) (at-args .args .version) (at-args .args .row) o (at-enum-told .enum-told .given .1) (no-path (at-args .args .contents .now) (at-args .args .words .now) (at-args .args .version) (at-args .args .row) o row (c .if1 .taken) .0)
+    let at-kind-in = at-enum-told .before .before .before in
+    let at-args = at-kind-in .before .before .before in
+    λ o row. no-paint (at-args .args .contents .now) (at-args .args .words .now) (at-args .args .version) (at-args .args .row) o (at-enum-told .enum-told .given .1) (no-path (at-args .args .contents .now) (at-args .args .words .now) (at-args .args .version) (at-args .args .row) o row (λ is. c .if1 .taken (at-kind-in .kind-in .ensures ∙ is)) .0)
 
 paint-at-requires : tie.Need-paint-at-requires
 paint-at-requires c κs =
-    let at-args = c .before .before .before .before .before .before .before in
-    painted-holds (at-args .args .contents .now) (at-args .args .words .now) (at-args .args .version) (at-args .args .row) (at-args .pre .short) (line-painted (at-args .args .contents .now) (at-args .args .words .now) (at-args .args .version) (at-args .args .row) (at-args .pre .object) (at-args .pre .body) (c .if1 .left))
+    let at-start-in = c .before .before .before in
+    let at-kind-in = at-start-in .before in
+    let at-args = at-kind-in .before .before .before in
+    painted-holds (at-args .args .contents .now) (at-args .args .words .now) (at-args .args .version) (at-args .args .row) (at-args .pre .short) (line-painted (at-args .args .contents .now) (at-args .args .words .now) (at-args .args .version) (at-args .args .row) (at-start-in .start-in .ensures) (at-args .pre .object) (at-args .pre .body) (sym (at-kind-in .kind-in .ensures) ∙ c .if1 .left))
 
 returns-2 : tie.Need-returns-2
 returns-2 c =
     let at-if1 = c .before in
     let at-enum-told = at-if1 .before in
-    let at-args = at-enum-told .before .before .before .before .before .before in
-    λ o row. paint-answered (at-args .args .contents .now) (at-args .args .words .now) (at-args .args .version) (at-args .args .row) o (at-enum-told .enum-told .given .1) (line-painted (at-args .args .contents .now) (at-args .args .words .now) (at-args .args .version) (at-args .args .row) o row (at-if1 .if1 .left)) (c .paint-at .ensures)
+    let at-start-in = at-enum-told .before .before in
+    let at-kind-in = at-start-in .before in
+    let at-args = at-kind-in .before .before .before in
+    λ o row. paint-answered (at-args .args .contents .now) (at-args .args .words .now) (at-args .args .version) (at-args .args .row) o (at-enum-told .enum-told .given .1) (line-painted (at-args .args .contents .now) (at-args .args .words .now) (at-args .args .version) (at-args .args .row) (at-start-in .start-in .ensures) o row (sym (at-kind-in .kind-in .ensures) ∙ at-if1 .if1 .left)) (c .paint-at .ensures)
 
 enum-told-2 : tie.Need-enum-told-2
 enum-told-2 c = search needs
@@ -59,8 +49,9 @@ enum-told-2 c = search needs
 returns-3 : tie.Need-returns-3
 returns-3 c =
     let at-enum-told2 = c .before in
-    let at-args = at-enum-told2 .before .before .before .before .before .before in
-    λ o row. no-paint (at-args .args .contents .now) (at-args .args .words .now) (at-args .args .version) (at-args .args .row) o (at-enum-told2 .enum-told2 .given .1) (no-path (at-args .args .contents .now) (at-args .args .words .now) (at-args .args .version) (at-args .args .row) o row (c .if2 .taken) .1)
+    let at-kind-in = at-enum-told2 .before .before .before in
+    let at-args = at-kind-in .before .before .before in
+    λ o row. no-paint (at-args .args .contents .now) (at-args .args .words .now) (at-args .args .version) (at-args .args .row) o (at-enum-told2 .enum-told2 .given .1) (no-path (at-args .args .contents .now) (at-args .args .words .now) (at-args .args .version) (at-args .args .row) o row (λ is. c .if2 .taken (at-kind-in .kind-in .ensures ∙ is)) .1)
 
 behind-requires : tie.Need-behind-requires
 behind-requires c κs = search needs
@@ -68,16 +59,20 @@ behind-requires c κs = search needs
 paint-at-requires-2 : tie.Need-paint-at-requires-2
 paint-at-requires-2 c κs =
     let at-if2 = c .before in
-    let at-args = at-if2 .before .before .before .before .before .before .before in
-    painted-holds (at-args .args .contents .now) (at-args .args .words .now) (at-args .args .version) (at-args .args .row) (at-args .pre .short) (fill-painted (at-args .args .contents .now) (at-args .args .words .now) (at-args .args .version) (at-args .args .row) (c .behind .ensures .is) (at-args .pre .object) (at-args .pre .body) (at-if2 .if2 .left))
+    let at-start-in = at-if2 .before .before .before in
+    let at-kind-in = at-start-in .before in
+    let at-args = at-kind-in .before .before .before in
+    painted-holds (at-args .args .contents .now) (at-args .args .words .now) (at-args .args .version) (at-args .args .row) (at-args .pre .short) (fill-painted (at-args .args .contents .now) (at-args .args .words .now) (at-args .args .version) (at-args .args .row) (at-start-in .start-in .ensures) (c .behind .ensures .is) (at-args .pre .object) (at-args .pre .body) (sym (at-kind-in .kind-in .ensures) ∙ at-if2 .if2 .left))
 
 returns-4 : tie.Need-returns-4
 returns-4 c =
     let at-behind = c .before in
     let at-if2 = at-behind .before in
     let at-enum-told2 = at-if2 .before in
-    let at-args = at-enum-told2 .before .before .before .before .before .before in
-    λ o row. paint-answered (at-args .args .contents .now) (at-args .args .words .now) (at-args .args .version) (at-args .args .row) o (at-enum-told2 .enum-told2 .given .1) (fill-painted (at-args .args .contents .now) (at-args .args .words .now) (at-args .args .version) (at-args .args .row) (at-behind .behind .ensures .is) o row (at-if2 .if2 .left)) (c .paint-at2 .ensures)
+    let at-start-in = at-enum-told2 .before .before in
+    let at-kind-in = at-start-in .before in
+    let at-args = at-kind-in .before .before .before in
+    λ o row. paint-answered (at-args .args .contents .now) (at-args .args .words .now) (at-args .args .version) (at-args .args .row) o (at-enum-told2 .enum-told2 .given .1) (fill-painted (at-args .args .contents .now) (at-args .args .words .now) (at-args .args .version) (at-args .args .row) (at-start-in .start-in .ensures) (at-behind .behind .ensures .is) o row (sym (at-kind-in .kind-in .ensures) ∙ at-if2 .if2 .left)) (c .paint-at2 .ensures)
 
 enum-told-3 : tie.Need-enum-told-3
 enum-told-3 c = search needs
@@ -85,8 +80,9 @@ enum-told-3 c = search needs
 returns-5 : tie.Need-returns-5
 returns-5 c =
     let at-enum-told3 = c .before in
-    let at-args = at-enum-told3 .before .before .before .before .before .before in
-    λ o row. no-paint (at-args .args .contents .now) (at-args .args .words .now) (at-args .args .version) (at-args .args .row) o (at-enum-told3 .enum-told3 .given .1) (no-text (at-args .args .contents .now) (at-args .args .words .now) (at-args .args .version) (at-args .args .row) o row (c .if3 .taken))
+    let at-kind-in = at-enum-told3 .before .before .before in
+    let at-args = at-kind-in .before .before .before in
+    λ o row. no-paint (at-args .args .contents .now) (at-args .args .words .now) (at-args .args .version) (at-args .args .row) o (at-enum-told3 .enum-told3 .given .1) (no-text (at-args .args .contents .now) (at-args .args .words .now) (at-args .args .version) (at-args .args .row) o row (λ is. c .if3 .taken (at-kind-in .kind-in .ensures ∙ is)))
 
 behind-requires-2 : tie.Need-behind-requires-2
 behind-requires-2 c κs = search needs
@@ -98,8 +94,10 @@ paint-at-requires-3 : tie.Need-paint-at-requires-3
 paint-at-requires-3 c κs =
     let at-behind2 = c .before in
     let at-if3 = at-behind2 .before in
-    let at-args = at-if3 .before .before .before .before .before .before .before in
-    painted-holds (at-args .args .contents .now) (at-args .args .words .now) (at-args .args .version) (at-args .args .row) (at-args .pre .short) (text-painted (at-args .args .contents .now) (at-args .args .words .now) (at-args .args .version) (at-args .args .row) (at-behind2 .behind2 .ensures .is) (c .behind3 .ensures .is) (at-args .pre .object) (at-args .pre .body) (at-if3 .if3 .left))
+    let at-start-in = at-if3 .before .before .before in
+    let at-kind-in = at-start-in .before in
+    let at-args = at-kind-in .before .before .before in
+    painted-holds (at-args .args .contents .now) (at-args .args .words .now) (at-args .args .version) (at-args .args .row) (at-args .pre .short) (text-painted (at-args .args .contents .now) (at-args .args .words .now) (at-args .args .version) (at-args .args .row) (at-start-in .start-in .ensures) (at-behind2 .behind2 .ensures .is) (c .behind3 .ensures .is) (at-args .pre .object) (at-args .pre .body) (sym (at-kind-in .kind-in .ensures) ∙ at-if3 .if3 .left))
 
 returns-6 : tie.Need-returns-6
 returns-6 c =
@@ -107,21 +105,17 @@ returns-6 c =
     let at-behind2 = at-behind3 .before in
     let at-if3 = at-behind2 .before in
     let at-enum-told3 = at-if3 .before in
-    let at-args = at-enum-told3 .before .before .before .before .before .before in
-    λ o row. paint-answered (at-args .args .contents .now) (at-args .args .words .now) (at-args .args .version) (at-args .args .row) o (at-enum-told3 .enum-told3 .given .1) (text-painted (at-args .args .contents .now) (at-args .args .words .now) (at-args .args .version) (at-args .args .row) (at-behind2 .behind2 .ensures .is) (at-behind3 .behind3 .ensures .is) o row (at-if3 .if3 .left)) (c .paint-at3 .ensures)
+    let at-start-in = at-enum-told3 .before .before in
+    let at-kind-in = at-start-in .before in
+    let at-args = at-kind-in .before .before .before in
+    λ o row. paint-answered (at-args .args .contents .now) (at-args .args .words .now) (at-args .args .version) (at-args .args .row) o (at-enum-told3 .enum-told3 .given .1) (text-painted (at-args .args .contents .now) (at-args .args .words .now) (at-args .args .version) (at-args .args .row) (at-start-in .start-in .ensures) (at-behind2 .behind2 .ensures .is) (at-behind3 .behind3 .ensures .is) o row (sym (at-kind-in .kind-in .ensures) ∙ at-if3 .if3 .left)) (c .paint-at3 .ensures)
 
 pub paint-of-spec : {M : Type 1} → statement M
 paint-of-spec =
     tie.close
     (tie.spec
-    mul-kind
-    mul-kind-2
-    shared-slice-read-kind
-    mul-start
-    add-start
-    mul-start-2
-    shared-slice-read-start
-    cast-start
+    kind-in-requires
+    start-in-requires
     enum-told
     returns
     paint-at-requires

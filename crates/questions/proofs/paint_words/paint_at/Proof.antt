@@ -17,6 +17,9 @@ mul-letter c = search needs
 shared-slice-read-letter : tie.Need-shared-slice-read-letter
 shared-slice-read-letter c = paint-inside (c .before .before .args .version) (c .before .before .pre .here)
 
+cast-letter : tie.Need-cast-letter
+cast-letter c = let fit = c .shared-slice-known2 .given (c .before .before .args .at) in omega (arith, fit)
+
 add-behind : tie.Need-add-behind
 add-behind c = search needs
 
@@ -44,11 +47,11 @@ plain-at-requires-2 c κs =
     let at-args = at-if1 .before .before .before in
     end-is (linear-is (at-args .args .version) (at-args .pre .value) (at-args .pre .here) (at-if1 .if1 .taken)) (at-behind .behind .ensures .is) .here
 
-mul-t17 : tie.Need-mul-t17
-mul-t17 c = search needs
+mul-t25 : tie.Need-mul-t25
+mul-t25 c = search needs
 
-shared-slice-read-t19 : tie.Need-shared-slice-read-t19
-shared-slice-read-t19 c =
+shared-slice-read-t27 : tie.Need-shared-slice-read-t27
+shared-slice-read-t27 c =
     let at-behind2 = c .before .before .before in
     let at-behind = at-behind2 .before in
     let at-if1 = at-behind .before in
@@ -98,11 +101,11 @@ plain-at-requires-4 c κs =
     let at-args = at-if2 .before .before .before .before in
     end-is (radial-is (at-args .args .version) (at-args .pre .value) (at-args .pre .here) (at-if2 .if2 .taken)) (at-behind3 .behind3 .ensures .is) .here
 
-mul-t24 : tie.Need-mul-t24
-mul-t24 c = search needs
+mul-t40 : tie.Need-mul-t40
+mul-t40 c = search needs
 
-shared-slice-read-t26 : tie.Need-shared-slice-read-t26
-shared-slice-read-t26 c =
+shared-slice-read-t42 : tie.Need-shared-slice-read-t42
+shared-slice-read-t42 c =
     let at-behind4 = c .before .before .before in
     let at-behind3 = at-behind4 .before in
     let at-if2 = at-behind3 .before in
@@ -148,14 +151,15 @@ paint-at-spec =
     (tie.spec
     mul-letter
     shared-slice-read-letter
+    cast-letter
     add-behind
     behind-requires
     behind-requires-2
     add-plain-at
     plain-at-requires
     plain-at-requires-2
-    mul-t17
-    shared-slice-read-t19
+    mul-t25
+    shared-slice-read-t27
     returns
     add-behind-2
     behind-requires-3
@@ -163,8 +167,8 @@ paint-at-spec =
     add-plain-at-2
     plain-at-requires-3
     plain-at-requires-4
-    mul-t24
-    shared-slice-read-t26
+    mul-t40
+    shared-slice-read-t42
     returns-2
     plain-at-requires-5
     returns-3)

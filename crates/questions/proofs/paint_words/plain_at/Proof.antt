@@ -16,6 +16,9 @@ mul-letter c = search needs
 shared-slice-read-letter : tie.Need-shared-slice-read-letter
 shared-slice-read-letter c = search needs
 
+cast-letter : tie.Need-cast-letter
+cast-letter c = let fit = c .shared-slice-known2 .given (c .before .before .args .at) in omega (arith, fit)
+
 float-at-requires : tie.Need-float-at-requires
 float-at-requires c κs =
     let at-args = c .before .before .before in
@@ -151,6 +154,7 @@ plain-at-spec =
     (tie.spec
     mul-letter
     shared-slice-read-letter
+    cast-letter
     float-at-requires
     float-at-requires-2
     float-at-requires-3

@@ -1,6 +1,6 @@
 -- `questions::text::text_of` meets its contract.
+use mathlib.Core.Path.{sym, _∙_}
 use Rattle.questions.specs.TextLaws.{latex-holds, chars-inside, text-answered, no-text-answered}
-use mathlib.Core.Path.{_∙_}
 use borrow.Author.Needs.{needs}
 use Rattle.questions.proofs.text.text_of.Statement.{statement}
 use Rattle.questions.proofs.text.text_of.Tie as tie
@@ -10,30 +10,14 @@ use Rattle.places.proofs.behind.behind.Reads as behind-reads
 use Rattle.questions.proofs.text.alternative_chars.Reads as alternative-chars-reads
 use Rattle.questions.proofs.text.chars_at.Reads as chars-at-reads
 use Rattle.questions.proofs.text.refused.Reads as refused-reads
+use Rattle.rows.proofs.look.kind_in.Reads as kind-in-reads
+use Rattle.rows.proofs.look.start_in.Reads as start-in-reads
 
-mul-kind : tie.Need-mul-kind
-mul-kind c = search needs
+kind-in-requires : tie.Need-kind-in-requires
+kind-in-requires c κs = search needs
 
-mul-kind-2 : tie.Need-mul-kind-2
-mul-kind-2 c = search needs
-
-shared-slice-read-kind : tie.Need-shared-slice-read-kind
-shared-slice-read-kind c = search needs
-
-mul-start : tie.Need-mul-start
-mul-start c = search needs
-
-add-start : tie.Need-add-start
-add-start c = search needs
-
-mul-start-2 : tie.Need-mul-start-2
-mul-start-2 c = search needs
-
-shared-slice-read-start : tie.Need-shared-slice-read-start
-shared-slice-read-start c = search needs
-
-cast-start : tie.Need-cast-start
-cast-start c = search needs
+start-in-requires : tie.Need-start-in-requires
+start-in-requires c κs = search needs
 
 refused-requires : tie.Need-refused-requires
 refused-requires c κs = search needs
@@ -41,8 +25,9 @@ refused-requires c κs = search needs
 returns : tie.Need-returns
 returns c =
     let at-if1 = c .before in
-    let at-args = at-if1 .before .before .before .before .before in
-    λ o row. c .refused .ensures ∙ no-text-answered (at-args .args .contents .now) (at-args .args .words .now) (at-args .args .version) (at-args .args .row) o row (at-if1 .if1 .taken)
+    let at-kind-in = at-if1 .before .before in
+    let at-args = at-kind-in .before .before .before in
+    λ o row. c .refused .ensures ∙ no-text-answered (at-args .args .contents .now) (at-args .args .words .now) (at-args .args .version) (at-args .args .row) o row (λ is. at-if1 .if1 .taken (at-kind-in .kind-in .ensures ∙ is))
 
 behind-requires : tie.Need-behind-requires
 behind-requires c κs = search needs
@@ -57,8 +42,10 @@ alternative-chars-requires : tie.Need-alternative-chars-requires
 alternative-chars-requires c κs =
     let at-behind = c .before .before in
     let at-if1 = at-behind .before in
-    let at-args = at-if1 .before .before .before .before .before in
-    latex-holds (at-args .args .contents .now) (at-args .args .words .now) (at-args .args .version) (at-args .args .row) (at-args .pre .object) (at-args .pre .body) (at-if1 .if1 .left) (at-behind .behind .ensures .is) (at-args .pre .short)
+    let at-start-in = at-if1 .before in
+    let at-kind-in = at-start-in .before in
+    let at-args = at-kind-in .before .before .before in
+    latex-holds (at-args .args .contents .now) (at-args .args .words .now) (at-args .args .version) (at-args .args .row) (at-args .pre .object) (at-args .pre .body) (sym (at-kind-in .kind-in .ensures) ∙ at-if1 .if1 .left) (at-start-in .start-in .ensures) (at-behind .behind .ensures .is) (at-args .pre .short)
 
 chars-at-requires : tie.Need-chars-at-requires
 chars-at-requires c κs =
@@ -66,8 +53,10 @@ chars-at-requires c κs =
     let at-behind2 = at-behind3 .before in
     let at-behind = at-behind2 .before in
     let at-if1 = at-behind .before in
-    let at-args = at-if1 .before .before .before .before .before in
-    (chars-inside (at-args .args .contents .now) (at-args .args .words .now) (at-args .args .version) (at-args .args .row) (at-args .pre .object) (at-args .pre .body) (at-if1 .if1 .left) (at-behind .behind .ensures .is) (at-behind2 .behind2 .ensures .is) (at-behind3 .behind3 .ensures .is), at-args .pre .short)
+    let at-start-in = at-if1 .before in
+    let at-kind-in = at-start-in .before in
+    let at-args = at-kind-in .before .before .before in
+    (chars-inside (at-args .args .contents .now) (at-args .args .words .now) (at-args .args .version) (at-args .args .row) (at-args .pre .object) (at-args .pre .body) (sym (at-kind-in .kind-in .ensures) ∙ at-if1 .if1 .left) (at-start-in .start-in .ensures) (at-behind .behind .ensures .is) (at-behind2 .behind2 .ensures .is) (at-behind3 .behind3 .ensures .is), at-args .pre .short)
 
 returns-2 : tie.Need-returns-2
 returns-2 c =
@@ -76,21 +65,17 @@ returns-2 c =
     let at-behind2 = at-behind3 .before in
     let at-behind = at-behind2 .before in
     let at-if1 = at-behind .before in
-    let at-args = at-if1 .before .before .before .before .before in
-    λ o row. text-answered (at-args .args .contents .now) (at-args .args .words .now) (at-args .args .version) (at-args .args .row) o row (at-if1 .if1 .left) (at-behind .behind .ensures .is) (at-behind2 .behind2 .ensures .is) (at-behind3 .behind3 .ensures .is) (at-alternative-chars .alternative-chars .ensures) (c .chars-at .ensures)
+    let at-start-in = at-if1 .before in
+    let at-kind-in = at-start-in .before in
+    let at-args = at-kind-in .before .before .before in
+    λ o row. text-answered (at-args .args .contents .now) (at-args .args .words .now) (at-args .args .version) (at-args .args .row) o row (sym (at-kind-in .kind-in .ensures) ∙ at-if1 .if1 .left) (at-start-in .start-in .ensures) (at-behind .behind .ensures .is) (at-behind2 .behind2 .ensures .is) (at-behind3 .behind3 .ensures .is) (at-alternative-chars .alternative-chars .ensures) (c .chars-at .ensures)
 
 pub text-of-spec : {M : Type 1} → statement M
 text-of-spec =
     tie.close
     (tie.spec
-    mul-kind
-    mul-kind-2
-    shared-slice-read-kind
-    mul-start
-    add-start
-    mul-start-2
-    shared-slice-read-start
-    cast-start
+    kind-in-requires
+    start-in-requires
     refused-requires
     returns
     behind-requires

@@ -1,9 +1,9 @@
 -- `table::answers::check` meets its contract.
-use Rattle.table.specs.AnswerLaws.{long-refused, walk-refused, walk-small, walk-checked}
-use Rattle.format.specs.LeafLaws.{known-below}
-use native.Mathlib.Omega.{arith}
-use mir.Syntax.{w32}
 use mathlib.Core.Logic.{inl, inr}
+use mir.Syntax.{w32}
+use native.Mathlib.Omega.{arith}
+use Rattle.format.specs.LeafLaws.{known-below}
+use Rattle.table.specs.AnswerLaws.{long-refused, walk-refused, walk-small, walk-checked}
 use borrow.Author.Needs.{needs}
 use Rattle.table.proofs.answers.check.Statement.{statement}
 use Rattle.table.proofs.answers.check.Tie as tie
@@ -12,11 +12,12 @@ use Rattle.table.proofs.answers.check.Lts as lts
 use Rattle.table.proofs.answers.no_table.Reads as no-table-reads
 use Rattle.table.proofs.file.walk_table.Reads as walk-table-reads
 
--- src/answers.rt:23:9
+mul-if1 : tie.Need-mul-if1
+mul-if1 c = search needs
+
 no-table-requires : tie.Need-no-table-requires
 no-table-requires c κs = search needs
 
--- src/answers.rt:23:9
 returns : tie.Need-returns
 returns c =
     let at-if1 = c .before in
@@ -24,11 +25,9 @@ returns c =
     let at-args = at-shared-slice-known2 .before .before in
     long-refused (at-args .args .contents .now) (at-args .args .words .now) (known-below w32 (at-args .args .words .now) (at-shared-slice-known2 .shared-slice-known2 .given)) (inl (at-if1 .if1 .taken)) (c .no-table .ensures)
 
--- src/answers.rt:26:9
 no-table-requires-2 : tie.Need-no-table-requires-2
 no-table-requires-2 c κs = search needs
 
--- src/answers.rt:26:9
 returns-2 : tie.Need-returns-2
 returns-2 c =
     let at-if2 = c .before in
@@ -36,67 +35,57 @@ returns-2 c =
     let at-args = at-shared-slice-known2 .before .before in
     long-refused (at-args .args .contents .now) (at-args .args .words .now) (known-below w32 (at-args .args .words .now) (at-shared-slice-known2 .shared-slice-known2 .given)) (inr (at-if2 .if2 .taken)) (c .no-table2 .ensures)
 
--- src/answers.rt:29:46
 slice-aggregate-walk-table : tie.Need-slice-aggregate-walk-table
 slice-aggregate-walk-table c = search needs
 
--- src/answers.rt:29:9
 walk-table-requires : tie.Need-walk-table-requires
 walk-table-requires c κs = search needs
 
--- src/answers.rt:32:9
 no-table-requires-3 : tie.Need-no-table-requires-3
 no-table-requires-3 c κs = search needs
 
--- src/answers.rt:32:9
 returns-3 : tie.Need-returns-3
 returns-3 c =
     let at-if3 = c .before in
-    let at-walk-table = at-if3 .before .before .before .before in
+    let at-walk-table = at-if3 .before .before .before in
     let at-shared-slice-known2 = at-walk-table .before .before .before .before in
     let at-args = at-shared-slice-known2 .before .before in
     walk-refused (at-args .args .contents .now) (at-args .args .words .now) (known-below w32 (at-args .args .words .now) (at-shared-slice-known2 .shared-slice-known2 .given)) (at-walk-table .walk-table .ensures) (at-if3 .if3 .taken) (c .no-table3 .ensures)
 
--- src/answers.rt:36:17
-cast-t10 : tie.Need-cast-t10
-cast-t10 c =
+cast-t14 : tie.Need-cast-t14
+cast-t14 c =
     let at-if3 = c .before in
-    let at-walk-table = at-if3 .before .before .before .before in
+    let at-walk-table = at-if3 .before .before .before in
     let at-shared-slice-known2 = at-walk-table .before .before .before .before in
     let at-args = at-shared-slice-known2 .before .before in
-    let small = walk-small (at-args .args .contents .now) (at-args .args .words .now) (known-below w32 (at-args .args .words .now) (at-shared-slice-known2 .shared-slice-known2 .given)) (at-walk-table .walk-table .ensures) (at-if3 .if3 .left) in omega (arith, small .0, small .1, small .2)
+    let small = walk-small (at-args .args .contents .now) (at-args .args .words .now) (known-below w32 (at-args .args .words .now) (at-shared-slice-known2 .shared-slice-known2 .given)) (at-walk-table .walk-table .ensures) (omega (arith, at-if3 .if3 .left)) in omega (arith, small .0, small .1)
 
--- src/answers.rt:37:15
-cast-t11 : tie.Need-cast-t11
-cast-t11 c =
-    let at-if3 = c .before .before in
-    let at-walk-table = at-if3 .before .before .before .before in
+cast-t15 : tie.Need-cast-t15
+cast-t15 c =
+    let at-before = c .before in
+    let at-if3 = at-before .before in
+    let at-walk-table = at-if3 .before .before .before in
     let at-shared-slice-known2 = at-walk-table .before .before .before .before in
     let at-args = at-shared-slice-known2 .before .before in
-    let small = walk-small (at-args .args .contents .now) (at-args .args .words .now) (known-below w32 (at-args .args .words .now) (at-shared-slice-known2 .shared-slice-known2 .given)) (at-walk-table .walk-table .ensures) (at-if3 .if3 .left) in omega (arith, small .0, small .1, small .2)
+    let small = walk-small (at-args .args .contents .now) (at-args .args .words .now) (known-below w32 (at-args .args .words .now) (at-shared-slice-known2 .shared-slice-known2 .given)) (at-walk-table .walk-table .ensures) (omega (arith, at-if3 .if3 .left)) in omega (arith, small .0, small .1)
 
--- src/answers.rt:38:16
-cast-t12 : tie.Need-cast-t12
-cast-t12 c =
-    let at-if3 = c .before .before .before in
-    let at-walk-table = at-if3 .before .before .before .before in
-    let at-shared-slice-known2 = at-walk-table .before .before .before .before in
-    let at-args = at-shared-slice-known2 .before .before in
-    let small = walk-small (at-args .args .contents .now) (at-args .args .words .now) (known-below w32 (at-args .args .words .now) (at-shared-slice-known2 .shared-slice-known2 .given)) (at-walk-table .walk-table .ensures) (at-if3 .if3 .left) in omega (arith, small .0, small .1, small .2)
+cast-t16 : tie.Need-cast-t16
+cast-t16 c = search needs
 
--- src/answers.rt:19:1
 returns-4 : tie.Need-returns-4
 returns-4 c =
-    let at-if3 = c .before .before .before in
-    let at-walk-table = at-if3 .before .before .before .before in
+    let at-before = c .before .before in
+    let at-if3 = at-before .before in
+    let at-walk-table = at-if3 .before .before .before in
     let at-shared-slice-known2 = at-walk-table .before .before .before .before in
     let at-args = at-shared-slice-known2 .before .before in
-    walk-checked (at-args .args .contents .now) (at-args .args .words .now) (known-below w32 (at-args .args .words .now) (at-shared-slice-known2 .shared-slice-known2 .given)) (at-walk-table .walk-table .ensures) (at-if3 .if3 .left)
+    walk-checked (at-args .args .contents .now) (at-args .args .words .now) (known-below w32 (at-args .args .words .now) (at-shared-slice-known2 .shared-slice-known2 .given)) (at-walk-table .walk-table .ensures) (omega (arith, at-if3 .if3 .left))
 
 pub check-spec : {M : Type 1} → statement M
 check-spec =
     tie.close
     (tie.spec
+    mul-if1
     no-table-requires
     returns
     no-table-requires-2
@@ -105,7 +94,7 @@ check-spec =
     walk-table-requires
     no-table-requires-3
     returns-3
-    cast-t10
-    cast-t11
-    cast-t12
+    cast-t14
+    cast-t15
+    cast-t16
     returns-4)

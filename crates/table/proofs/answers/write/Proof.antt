@@ -11,23 +11,20 @@ use Rattle.table.proofs.answers.write.Lts as lts
 use Rattle.table.proofs.answers.check.Reads as check-reads
 use Rattle.table.proofs.file.walk_table.Reads as walk-table-reads
 
--- src/answers.rt:46:9
 check-requires : tie.Need-check-requires
 check-requires c κs = search needs
 
--- src/answers.rt:48:9
 returns : tie.Need-returns
 returns c =
-    let at-check = c .before .before in
+    let at-before = c .before in
+    let at-check = at-before .before in
     let at-shared-slice-known2 = at-check .before .before in
     let at-args = at-shared-slice-known2 .before .before in
     write-refused (at-args .args .contents .now) (at-args .args .words .now) (known-below w32 (at-args .args .words .now) (at-shared-slice-known2 .shared-slice-known2 .given)) (at-check .check .ensures) (at-args .args .file .now) (c .if1 .taken)
 
--- src/answers.rt:51:21
 cast-if2 : tie.Need-cast-if2
 cast-if2 c = search needs
 
--- src/answers.rt:52:9
 returns-2 : tie.Need-returns-2
 returns-2 c =
     let at-if1 = c .before in
@@ -36,23 +33,22 @@ returns-2 c =
     let at-args = at-shared-slice-known2 .before .before in
     write-short (at-args .args .contents .now) (at-args .args .words .now) (known-below w32 (at-args .args .words .now) (at-shared-slice-known2 .shared-slice-known2 .given)) (at-check .check .ensures) (at-if1 .if1 .left) (at-args .args .file .now) (c .if2 .taken)
 
--- src/answers.rt:59:13
 walk-table-requires : tie.Need-walk-table-requires
 walk-table-requires c κs =
-    let at-if1 = c .before .before in
+    let at-before = c .before in
+    let at-if1 = at-before .before in
     let at-check = at-if1 .before .before in
     let at-shared-slice-known2 = at-check .before .before in
     let at-args = at-shared-slice-known2 .before .before in
     within-limits (at-args .args .contents .now) (at-args .args .words .now) (known-below w32 (at-args .args .words .now) (at-shared-slice-known2 .shared-slice-known2 .given)) (at-check .check .ensures) (at-if1 .if1 .left)
 
--- src/answers.rt:43:1
 same-length : tie.Need-same-length
 same-length c = search needs
 
--- src/answers.rt:43:1
 returns-3 : tie.Need-returns-3
 returns-3 c =
-    let at-walk-table = c .before .before in
+    let at-before = c .before in
+    let at-walk-table = at-before .before in
     let at-if2 = at-walk-table .before .before in
     let at-if1 = at-if2 .before in
     let at-check = at-if1 .before .before in

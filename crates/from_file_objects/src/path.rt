@@ -1,0 +1,42 @@
+// Paths: two paints, a line style and an outline of segments.
+use crate::segment::joined_segments;
+use crate::segment::segments;
+use drawing::limits::LEAST_SEGMENTS;
+use drawing::limits::V1_3;
+use from_file::field::count;
+use from_file::letter::closed_letter;
+use from_file::prims::Kept;
+use from_file::prims::Unit;
+use from_file::run::run;
+use from_file_styles::line_style::line_style;
+use from_file_styles::paint::paint;
+use ways::Pass;
+ghost use Rattle.drawing.specs.Path as P;
+ghost use Rattle.from_file.specs.Lays.{Begins, Lays};
+
+// A count, the start from 1.3 on, and as many segments.
+fn outline(src: &[Unit], dst: &mut [Kept], at: usize, to: usize, version: u32) -> Pass
+    requires { ⌜ Begins (now src) at to ⌝ }
+    ensures { λ r. ⌜ Lays (P.outline version) (now (src .entry)) (now (dst .entry)) (now (dst .exit)) at to r ⌝ }
+{
+    let told = count(&*src, dst, at, to, LEAST_SEGMENTS);
+    let number = told.value;
+    let behind = told.pass;
+    if version < V1_3 {
+        return joined_segments(&*src, dst, behind.at, behind.to, number);
+    }
+    let start = run(&*src, dst, behind.at, behind.to, 8, 2);
+    segments(&*src, dst, start.at, start.to, number)
+}
+
+pub fn path(src: &[Unit], dst: &mut [Kept], at: usize, to: usize, version: u32) -> Pass
+    requires { ⌜ Begins (now src) at to ⌝ }
+    ensures { λ r. ⌜ Lays (P.path version) (now (src .entry)) (now (dst .entry)) (now (dst .exit)) at to r ⌝ }
+{
+    let lined = paint(&*src, dst, at, to, version);
+    let filled = paint(&*src, dst, lined.at, lined.to, version);
+    let styled = line_style(&*src, dst, filled.at, filled.to, version);
+    let told = closed_letter(&*src, dst, styled.at, styled.to);
+    let behind = told.pass;
+    outline(&*src, dst, behind.at, behind.to, version)
+}

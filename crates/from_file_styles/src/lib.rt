@@ -1,0 +1,5 @@
+// The layout in code, from a file's bytes to a table's words: paints, markers, line styles, settings.
+pub mod line_style;
+pub mod marker;
+pub mod paint;
+pub mod settings;

@@ -1,4 +1,0 @@
--- Laws of segments and of runs of doubles.
-pub mod Segments
-pub mod SegmentLaws
-pub mod Doubles

@@ -1,0 +1,24 @@
+-- `rows::store::leaf_kind` meets its contract.
+use borrow.Author.Tests.{eq-eqb, ne-eqb}
+use Rattle.rows.proofs.store.leaf_kind.Statement.{statement}
+use Rattle.rows.proofs.store.leaf_kind.Tie as tie
+
+returns : tie.Need-returns
+returns c =
+    let h0 = c .if1 .taken in
+    simp (eq-eqb, ne-eqb)
+
+returns-2 : tie.Need-returns-2
+returns-2 c =
+    let h0 = c .if2 .taken in
+    let h1 = c .before .if1 .left in
+    simp (eq-eqb, ne-eqb)
+
+returns-3 : tie.Need-returns-3
+returns-3 c =
+    let h0 = c .if2 .left in
+    let h1 = c .before .if1 .left in
+    simp (eq-eqb, ne-eqb)
+
+pub leaf-kind-spec : {M : Type 1} → statement M
+leaf-kind-spec = tie.close (tie.spec returns returns-2 returns-3)

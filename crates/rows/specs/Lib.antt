@@ -1,0 +1,4 @@
+-- The words of rows.
+pub mod Rows
+pub mod RowLaws
+pub mod Stores

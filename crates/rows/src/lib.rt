@@ -1,0 +1,4 @@
+// Rows of the contents, one an object, and how far a walk over rows and bodies has come.
+pub mod look;
+pub mod store;
+pub mod walked;
