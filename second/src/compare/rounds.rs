@@ -4,7 +4,7 @@ use super::calls::{Asked, Comparer};
 use second::answer::Answer;
 use second::damage::fields::{of_bodies, of_file, Field};
 use second::damage::{files, tables};
-use second::generate::special::{of_depth, padded, sampler, with_chains};
+use second::generate::special::{of_depth, padded, sampler, with_chains, with_text_path};
 use second::generate::{self, all_labels, chars};
 use second::model::{Chars, Drawing};
 use second::random::Random;
@@ -12,7 +12,7 @@ use second::table::{self, Table};
 use second::version::Version;
 use second::{list, read, write};
 
-/// What the calls of a round are made from. The drawing may be over a limit.
+/// What the calls of a round are made from. The drawing may be over a limit, or have what its version lacks.
 struct Round {
     drawing: Drawing,
     file: Vec<u8>,
@@ -38,7 +38,7 @@ pub fn round(comparer: &mut Comparer, seed: u64) {
     ask_damaged(comparer, &round);
 }
 
-/// Most drawings are small; some are at a limit or just over it.
+/// Most drawings are small; some are at a limit or just over it, or have a text along a path in any version.
 fn some_drawing(random: &mut Random) -> Drawing {
     let seed = random.bits();
     let version = *random.pick(&Version::ALL);
@@ -55,6 +55,7 @@ fn some_drawing(random: &mut Random) -> Drawing {
         }
         24..=26 => generate::drawing(seed, version, 15_000),
         27..=50 => generate::drawing(seed, version, 2_000),
+        51..=56 => with_text_path(seed, version, random.flag()),
         _ => generate::drawing(seed, version, random.within(1, 400)),
     }
 }
@@ -229,7 +230,8 @@ fn ask_damaged(comparer: &mut Comparer, round: &Round) {
             }
             3 => {
                 let row = some_row(&mut comparer.random, rows);
-                comparer.paint(&mut asked, row, 1);
+                let which = comparer.random.below(3) as u32;
+                comparer.paint(&mut asked, row, which);
             }
             4 => {
                 let row = some_row(&mut comparer.random, rows);
