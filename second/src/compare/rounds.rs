@@ -32,10 +32,19 @@ pub fn round(comparer: &mut Comparer, seed: u64) {
         body_fields: of_bodies(&drawing),
         drawing,
     };
+    count(comparer, &round);
     read_in_rooms(comparer, &round.file, &round.table);
     read_damaged(comparer, &round);
     ask_about(comparer, &round);
     ask_damaged(comparer, &round);
+}
+
+/// Counts the drawing by its version, and if it has a text along a path.
+fn count(comparer: &mut Comparer, round: &Round) {
+    comparer.report.met(format!("1.{}", round.drawing.version.minor()));
+    if round.table.contents.chunks(table::ROW).any(|row| row[0] == 5) {
+        comparer.report.met("with X".to_string());
+    }
 }
 
 /// Most drawings are small; some are at a limit or just over it, or have a text along a path in any version.
