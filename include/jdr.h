@@ -1,4 +1,4 @@
-/* Quorvalli: a proved reader of JDR vector drawings, versions 1.0 to 1.4, for programs in C and C++.
+/* Quorvalli: a proved reader of JDR vector drawings, versions 1.0 to 1.5, for programs in C and C++.
  *
  * Every call takes every input, comes to an end and keeps nothing between calls. A run that is lent is a pointer and a length in
  * elements. A run of no elements may have any pointer, NULL too; any other pointer is good for that many elements and aligned for them.
@@ -23,7 +23,7 @@ enum {
     JDR_TOO_LONG = 1,            /* a file of more than JDR_LONGEST_FILE bytes; the offset is that limit */
     JDR_CUT = 2,                 /* the file ends before or within the field */
     JDR_NO_JDR = 3,              /* the first field is not 'JDR' */
-    JDR_BAD_VERSION = 4,         /* the version's length is not 3, or the version is none of 1.0 to 1.4 */
+    JDR_BAD_VERSION = 4,         /* the version's length is not 3, or the version is none of 1.0 to 1.5 */
     JDR_BAD_FLAG = 5,            /* a flag is neither 0 nor 1 */
     JDR_OUT_OF_RANGE = 6,        /* a byte or an integer is outside its list or range, a font size below 0 too */
     JDR_BAD_CHAR = 7,            /* a char is not allowed here in this version */
@@ -51,14 +51,15 @@ enum {
     JDR_GROUP = 1,
     JDR_PATH = 2,
     JDR_TEXT = 3,
-    JDR_BITMAP = 4
+    JDR_BITMAP = 4,
+    JDR_TEXT_PATH = 5            /* a text along a path, from version 1.5 on */
 };
 
 /* Which paint `jdr_paint` is asked for; any other number is a part that no row has. */
 enum {
     JDR_LINE_PAINT = 0,          /* of a path */
     JDR_FILL_PAINT = 1,          /* of a path */
-    JDR_TEXT_PAINT = 2           /* of a text */
+    JDR_TEXT_PAINT = 2           /* of a text, or of a text along a path */
 };
 
 /* The kinds of colours, with their components. */
@@ -128,7 +129,7 @@ enum {
 struct jdr_paint jdr_paint(const uint32_t *contents, size_t contents_len, const uint32_t *bodies, size_t bodies_len, uint32_t row,
                            uint32_t which);
 
-/* Where the chars of a text row of a table, whose used words are lent exactly, stand. 0; 16, then 6, then 7. */
+/* Where the chars of a text, or of a text along a path, stand: a row of a table, whose used words are lent exactly. 0; 16, then 6, then 7. */
 struct jdr_text jdr_text(const uint32_t *contents, size_t contents_len, const uint32_t *bodies, size_t bodies_len, uint32_t row);
 
 #ifdef __cplusplus

@@ -85,12 +85,15 @@ static const char *kind_name(uint32_t kind)
         return "path";
     case JDR_TEXT:
         return "text";
-    default:
+    case JDR_BITMAP:
         return "bitmap";
+    default:
+        return "textpath";
     }
 }
 
-/* What is shown of a text: the LaTeX alternative if it has a char, otherwise the text itself. A row that is no text prints nothing. */
+/* What is shown of a text, along a path or not: the LaTeX alternative if it has a char, otherwise the text itself. A row that is no text
+ * prints nothing. */
 static void print_shown(const struct table *table, uint32_t row)
 {
     struct jdr_text text = jdr_text(table->contents, table->contents_len, table->bodies, table->bodies_len, row);

@@ -11,7 +11,7 @@ ACCEPTED = 0
 CONTENTS_TOO_SHORT = 14
 LIST_TOO_SHORT = 18
 ROW_WORDS = 4  # kind, parent, start, length
-KINDS = {1: "group", 2: "path", 3: "text", 4: "bitmap"}
+KINDS = {1: "group", 2: "path", 3: "text", 4: "bitmap", 5: "textpath"}
 
 
 class Answer(ctypes.Structure):

@@ -42,7 +42,9 @@ def groups_around(contents, row):
 
 
 def shown(table, row):
-    """What is shown of a text, as words to print: the LaTeX alternative if it has a char, otherwise the text. None for a row that is no text."""
+    """What is shown of a text, along a path or not, as words to print: the LaTeX alternative if it has a char, otherwise the text. None for
+    a row that is no text.
+    """
     text = jdr.text(*table, row)
     if text.number != jdr.ACCEPTED:
         return []

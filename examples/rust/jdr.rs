@@ -33,6 +33,7 @@ pub const ROW_WORDS: usize = 4;
 pub const GROUP: u32 = 1;
 pub const PATH: u32 = 2;
 pub const TEXT: u32 = 3;
+pub const BITMAP: u32 = 4;
 
 mod c {
     use super::{Answer, Text};

@@ -45,11 +45,13 @@ fn kind_name(kind: u32) -> &'static str {
         jdr::GROUP => "group",
         jdr::PATH => "path",
         jdr::TEXT => "text",
-        _ => "bitmap",
+        jdr::BITMAP => "bitmap",
+        _ => "textpath",
     }
 }
 
-/// What is shown of a text: the LaTeX alternative if it has a char, otherwise the text itself. A row that is no text has none.
+/// What is shown of a text, along a path or not: the LaTeX alternative if it has a char, otherwise the text itself. A row that is no text
+/// has none.
 fn shown(table: &Table, row: u32) -> Option<String> {
     let text = jdr::text(&table.contents, &table.bodies, row);
     let (start, length) = match text.alternative_length {

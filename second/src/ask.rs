@@ -1,13 +1,13 @@
 //! The paint question, the text question and the text to show (01, 'Paint' and 'Text to show').
 //!
 //! Both questions give 16 for a bad table, 6 for a row out of range, 7 for a row with no such part,
-//! in that order.
+//! in that order. They answer a text along a path as a text (02, R-1).
 
 use crate::answer::{Color, PaintAnswer, TextAnswer};
 use crate::check::Good;
 use crate::layout;
 use crate::list::{opened, Opened, Part};
-use crate::model::{Chars, Float, Gradient, Latex, Paint, Plain, Text};
+use crate::model::{Chars, Float, Gradient, Latex, Paint, Plain, Text, TextStyle};
 use crate::table::Words;
 use crate::version::Version;
 
@@ -26,7 +26,7 @@ pub fn paint(good: Option<&Good>, row: u32, which: u32) -> PaintAnswer {
     let found = object(good, row).and_then(|(_, object)| match (object.part, which) {
         (Part::Path(path), 0) => Ok(&path.line),
         (Part::Path(path), 1) => Ok(&path.fill),
-        (Part::Text(text), 2) => Ok(&text.paint),
+        (Part::Text(text) | Part::TextPath(text), 2) => Ok(&text.paint),
         _ => Err(7),
     });
     match found {
@@ -78,20 +78,24 @@ pub fn text(good: Option<&Good>, row: u32) -> TextAnswer {
     match object(good, row) {
         Err(number) => TextAnswer::refused(number),
         Ok((good, object)) => match object.part {
-            Part::Text(text) => text_answer(good, row, text),
+            Part::Text(text) => text_answer(good, row, text, 0),
+            Part::TextPath(text) => {
+                text_answer(good, row, text, paint_words(good.drawing.version, &text.paint))
+            }
             _ => TextAnswer::refused(7),
         },
     }
 }
 
 /// Places are indexes into the whole run of bodies. 0 and 0 for the alternative without LaTeX fields.
-fn text_answer(good: &Good, row: u32, text: &Text) -> TextAnswer {
+/// The style begins after so many words of the body: along a path the paint comes first.
+fn text_answer(good: &Good, row: u32, text: &Text, before_style: usize) -> TextAnswer {
     let body = good.table.row(row).map_or(0, |words| words[2]) as usize;
     let version = good.drawing.version;
     let mut answer = TextAnswer::default();
-    if let Some(latex) = &text.latex {
-        let start = body + words_before_latex(text) + words_before_alternative(latex);
-        answer.alternative_start = start as u32;
+    if let Some(latex) = &text.style.latex {
+        let in_style = words_before_latex(&text.style) + words_before_alternative(latex);
+        answer.alternative_start = (body + before_style + in_style) as u32;
         answer.alternative_length = latex.alternative.len() as u32;
     }
     answer.text_start = (body + words_before_text(version, text)) as u32;
@@ -99,9 +103,9 @@ fn text_answer(good: &Good, row: u32, text: &Text) -> TextAnswer {
     answer
 }
 
-/// Family, shape, series, size, transformation and the flag.
-fn words_before_latex(text: &Text) -> usize {
-    string_words(&text.family) + 1 + 1 + 1 + 2 * text.transformation.len() + 1
+/// Of the style: family, shape, series, size, transformation and the flag.
+fn words_before_latex(style: &TextStyle) -> usize {
+    string_words(&style.family) + 1 + 1 + 1 + 2 * style.transformation.len() + 1
 }
 
 /// Family, series, shape, size, horizontal, vertical and the alternative's own length.
@@ -110,11 +114,11 @@ fn words_before_alternative(latex: &Latex) -> usize {
     strings.into_iter().map(string_words).sum::<usize>() + 1 + 1 + 1
 }
 
-/// All that stands before the text's first char: its own length word is the last of them.
+/// All that stands before the text's first char, wherever the paint is: its own length word is the last of them.
 fn words_before_text(version: Version, text: &Text) -> usize {
-    let latex = text.latex.as_ref();
+    let latex = text.style.latex.as_ref();
     let latex_words = latex.map_or(0, |latex| words_before_alternative(latex) + latex.alternative.len());
-    words_before_latex(text) + latex_words + paint_words(version, &text.paint) + 1
+    words_before_latex(&text.style) + latex_words + paint_words(version, &text.paint) + 1
 }
 
 /// A length word and a word for each char.

@@ -8,8 +8,8 @@ use crate::generate::chars;
 use crate::generate::special::plain_bitmap;
 use crate::list::{self, Part};
 use crate::model::{
-    Bitmap, Drawing, Group, Latex, LineStyle, Markers, Object, Paint, Path, Plain, Point, Segment, Settings,
-    Text,
+    Bitmap, Drawing, Group, Latex, LineStyle, Markers, Object, Outline, Paint, Path, Plain, Point, Segment,
+    Settings, Text, TextPath, TextStyle,
 };
 use crate::version::Version;
 use crate::{plans, read, table, write};
@@ -22,6 +22,7 @@ pub fn plans() -> Vec<(&'static str, Vec<u8>)> {
     let hall = write::file(&hall());
     let cut = hall[..hall.len() - 20].to_vec();
     vec![
+        ("aisles.jdr", write::file(&aisles())),
         ("bays.jdr", write::file(&bays())),
         ("cut.jdr", cut),
         ("hall.jdr", hall),
@@ -31,12 +32,12 @@ pub fn plans() -> Vec<(&'static str, Vec<u8>)> {
 
 /// One label three times, at two depths.
 fn hall() -> Drawing {
-    let [.., version] = Version::ALL;
+    let [.., version, _] = Version::ALL;
     let machines = vec![
         bitmap("lathe.png", "machine"),
-        outline(Plain::Rgb([0, 0, 0, ONE]), Plain::Grey([HALF, ONE]), "machine"),
+        path(Plain::Rgb([0, 0, 0, ONE]), Plain::Grey([HALF, ONE]), "machine"),
     ];
-    let cell = group("cell", vec![text("Press", "machine")]);
+    let cell = group("cell", vec![Object::Text(text("Press", "machine"))]);
     let objects = vec![group("line 1", machines), group("line 2", vec![cell]), bitmap("door.png", "door")];
     let outer = Group { objects, description: chars("hall") };
     Drawing { version, settings: Settings::None, outer }
@@ -47,11 +48,21 @@ fn hall() -> Drawing {
 fn bays() -> Drawing {
     let [_, _, version, ..] = Version::ALL;
     let mill = "Fräse 🔧";
-    let inner = group("bay", vec![text("Bay", "bay"), bitmap("mill.png", mill)]);
+    let inner = group("bay", vec![Object::Text(text("Bay", "bay")), bitmap("mill.png", mill)]);
     let red = Plain::Rgb([ONE, 0, 0, ONE]);
-    let aisle = group("bay 1", vec![outline(red, Plain::Transparent, "bay")]);
-    let unnamed = group("", vec![aisle, with_alternative(text("Mill", mill), "\\emph{Mill} 🔧")]);
+    let aisle = group("bay 1", vec![path(red, Plain::Transparent, "bay")]);
+    let mill = Object::Text(with_alternative(text("Mill", mill), "\\emph{Mill} 🔧"));
+    let unnamed = group("", vec![aisle, mill]);
     let outer = Group { objects: vec![inner, unnamed], description: chars("bay") };
+    Drawing { version, settings: Settings::None, outer }
+}
+
+/// Texts along paths: one with a label that a text has too, and one whose alternative is shown.
+fn aisles() -> Drawing {
+    let [.., version] = Version::ALL;
+    let lines = vec![Object::Text(text("Line 2", "line 2")), along(text("Aisle 2", "line 2"))];
+    let machine = along(with_alternative(text("Robot", "machine"), "\\textbf{Robot}"));
+    let outer = Group { objects: vec![group("hall", lines), machine], description: chars("aisles") };
     Drawing { version, settings: Settings::None, outer }
 }
 
@@ -63,23 +74,24 @@ fn bitmap(name: &str, description: &str) -> Object {
     Object::Bitmap(Bitmap { name: chars(name), description: chars(description), ..plain_bitmap(1) })
 }
 
-fn text(shown: &str, description: &str) -> Object {
-    Object::Text(Text {
-        family: chars("Serif"),
-        shape: 0,
-        series: 0,
-        size: 10,
-        transformation: [1.0f64, 0.0, 0.0, 1.0, 5.0, 5.0].map(f64::to_bits),
-        latex: None,
+fn text(shown: &str, description: &str) -> Text {
+    Text {
+        style: TextStyle {
+            family: chars("Serif"),
+            shape: 0,
+            series: 0,
+            size: 10,
+            transformation: [1.0f64, 0.0, 0.0, 1.0, 5.0, 5.0].map(f64::to_bits),
+            latex: None,
+        },
         paint: Paint::Plain(Plain::Transparent),
         text: chars(shown),
         description: chars(description),
-    })
+    }
 }
 
 /// A text with LaTeX fields, of which the alternative is shown.
-fn with_alternative(object: Object, alternative: &str) -> Object {
-    let Object::Text(text) = object else { unreachable!("only a text has an alternative") };
+fn with_alternative(text: Text, alternative: &str) -> Text {
     let latex = Latex {
         family: chars("\\rmfamily"),
         series: vec![],
@@ -89,13 +101,27 @@ fn with_alternative(object: Object, alternative: &str) -> Object {
         vertical: 2,
         alternative: chars(alternative),
     };
-    Object::Text(Text { latex: Some(latex), ..text })
+    Text { style: TextStyle { latex: Some(latex), ..text.style }, ..text }
 }
 
-/// Three sides of a rectangle, which the path closes; from 1.1, since it has markers of that sort.
-fn outline(line: Plain, fill: Plain, description: &str) -> Object {
+/// The text along a rectangle.
+fn along(text: Text) -> Object {
+    Object::TextPath(TextPath { text, outline: rectangle() })
+}
+
+/// Three sides of a rectangle, which the path closes.
+fn rectangle() -> Outline {
     let point = |x: f64, y: f64| Point { x: x.to_bits(), y: y.to_bits() };
     let corners = [point(40.0, 0.0), point(40.0, 20.0), point(0.0, 20.0)];
+    Outline {
+        closed: true,
+        start: point(0.0, 0.0),
+        segments: corners.into_iter().map(Segment::Line).collect(),
+    }
+}
+
+/// A rectangle; from 1.1, since it has markers of that sort.
+fn path(line: Plain, fill: Plain, description: &str) -> Object {
     Object::Path(Path {
         line: Paint::Plain(line),
         fill: Paint::Plain(fill),
@@ -108,9 +134,7 @@ fn outline(line: Plain, fill: Plain, description: &str) -> Object {
             winding: 0,
             markers: Markers::Chains { start: vec![], mid: vec![], end: vec![] },
         },
-        closed: true,
-        start: point(0.0, 0.0),
-        segments: corners.into_iter().map(Segment::Line).collect(),
+        outline: rectangle(),
         description: chars(description),
     })
 }
@@ -144,20 +168,23 @@ fn line(call: &str, answer: Answer) -> String {
     format!("{call}: {number} {offset} {rows} {words}\n")
 }
 
+/// The text to show of a text.
+fn shows(text: &Text) -> String {
+    let alternative = text.style.latex.as_ref().map_or(&[][..], |latex| &latex.alternative);
+    let shown = ask::shown(alternative, &text.text);
+    format!(" shows {}", String::from_utf16_lossy(shown))
+}
+
 /// An object with its kind and the groups around it, the innermost first, and the text to show of a text.
 fn row_line(drawing: &Drawing, row: u32) -> String {
-    let mut shows = String::new();
-    let kind = match list::opened(drawing)[row as usize].part {
-        Part::Group => "group",
-        Part::Path(_) => "path",
-        Part::Text(text) => {
-            let alternative = text.latex.as_ref().map_or(&[][..], |latex| &latex.alternative);
-            let shown = ask::shown(alternative, &text.text);
-            shows = format!(" shows {}", String::from_utf16_lossy(shown));
-            "text"
-        }
-        Part::Bitmap => "bitmap",
+    let (kind, text) = match list::opened(drawing)[row as usize].part {
+        Part::Group => ("group", None),
+        Part::Path(_) => ("path", None),
+        Part::Text(text) => ("text", Some(text)),
+        Part::Bitmap => ("bitmap", None),
+        Part::TextPath(text) => ("textpath", Some(text)),
     };
+    let shows = text.map_or(String::new(), shows);
     let around = &list::groups_around(drawing)[row as usize];
     let around: Vec<String> = around.iter().map(u32::to_string).collect();
     let inside = if around.is_empty() { "no group".to_string() } else { around.join(" ") };

@@ -1,8 +1,8 @@
 //! A second reading of the papers, written from them alone: the plainest program that gives the
-//! answers of document 01, to be compared with the library.
+//! answers of document 01, with those requests of 02 that are met, to be compared with the library.
 //!
-//! `01` in a comment is the customer's specification, `000` the description of the format that it cites, and the readings are what
-//! docs/DECISIONS.md has under 'What 01 leaves open'.
+//! `01` in a comment is the customer's specification, `02` the requests that followed it, `000` the description of the format that 01
+//! cites, and the readings are what docs/DECISIONS.md has under 'What 01 leaves open'.
 
 pub mod answer;
 pub mod ask;

@@ -11,6 +11,7 @@ pub enum Part<'a> {
     Path(&'a Path),
     Text(&'a Text),
     Bitmap,
+    TextPath(&'a Text),
 }
 
 /// An object of the drawing; its row number is its place in the list of those that open.
@@ -40,6 +41,7 @@ fn open_object<'a>(list: &mut Vec<Opened<'a>>, object: &'a Object) {
         Object::Path(path) => Part::Path(path),
         Object::Text(text) => Part::Text(text),
         Object::Bitmap(_) => Part::Bitmap,
+        Object::TextPath(along) => Part::TextPath(&along.text),
     };
     list.push(Opened { part, description: object.description() });
 }

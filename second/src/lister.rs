@@ -1,4 +1,4 @@
-//! The lister's lines (01, 'Plans that settle an argument').
+//! The lister's lines (01, 'Plans that settle an argument'; 02, R-1).
 
 use crate::table::{Table, ROW};
 
@@ -17,6 +17,7 @@ fn kind_letter(kind: u32) -> char {
         1 => 'G',
         2 => 'P',
         3 => 'T',
-        _ => 'I',
+        4 => 'I',
+        _ => 'X',
     }
 }

@@ -1,4 +1,4 @@
-//! The drawing as a tree of objects with their fields (01, 'Fields').
+//! The drawing as a tree of objects with their fields (01, 'Fields'; 02, R-1).
 //!
 //! Floats and doubles are kept as their bits, so that every NaN comes through unchanged.
 //! The flow frame flag is no part of the tree: a drawing that is accepted has it 0 everywhere.
@@ -63,6 +63,8 @@ pub enum Object {
     Path(Path),
     Text(Text),
     Bitmap(Bitmap),
+    /// From 1.5.
+    TextPath(TextPath),
 }
 
 /// A description is empty below 1.2, where the file has none.
@@ -77,25 +79,43 @@ pub struct Path {
     pub line: Paint,
     pub fill: Paint,
     pub style: LineStyle,
+    pub outline: Outline,
+    pub description: Chars,
+}
+
+/// Where a path runs, or a text along one.
+#[derive(Clone, Debug, PartialEq, Eq)]
+pub struct Outline {
     pub closed: bool,
     /// Below 1.3 this is the first segment's own start point.
     pub start: Point,
     /// Below 1.3 each later segment's own start is the end of the one before, so it is not kept.
     pub segments: Vec<Segment>,
-    pub description: Chars,
 }
 
 #[derive(Clone, Debug, PartialEq, Eq)]
 pub struct Text {
+    pub style: TextStyle,
+    pub paint: Paint,
+    pub text: Chars,
+    pub description: Chars,
+}
+
+#[derive(Clone, Debug, PartialEq, Eq)]
+pub struct TextStyle {
     pub family: Chars,
     pub shape: u8,
     pub series: u8,
     pub size: i32,
     pub transformation: Transformation,
     pub latex: Option<Latex>,
-    pub paint: Paint,
-    pub text: Chars,
-    pub description: Chars,
+}
+
+/// A text along a path: all that a text has, and the outline.
+#[derive(Clone, Debug, PartialEq, Eq)]
+pub struct TextPath {
+    pub text: Text,
+    pub outline: Outline,
 }
 
 #[derive(Clone, Debug, PartialEq, Eq)]
@@ -202,9 +222,9 @@ pub struct Marker {
     pub angle: Option<Float>,
     pub paint: Plain,
     pub overlay: bool,
-    /// Only in 1.4, and there only if overlay is 0.
+    /// From 1.4, and only if overlay is 0.
     pub user_offset: Option<Float>,
-    /// Only in 1.4, and there only if overlay is 0.
+    /// From 1.4, and only if overlay is 0.
     pub repeat_offset: Option<Float>,
 }
 
@@ -238,6 +258,7 @@ impl Object {
             Object::Path(path) => &path.description,
             Object::Text(text) => &text.description,
             Object::Bitmap(bitmap) => &bitmap.description,
+            Object::TextPath(along) => &along.text.description,
         }
     }
 
@@ -247,6 +268,7 @@ impl Object {
             Object::Path(path) => &mut path.description,
             Object::Text(text) => &mut text.description,
             Object::Bitmap(bitmap) => &mut bitmap.description,
+            Object::TextPath(along) => &mut along.text.description,
         }
     }
 }

@@ -1,4 +1,4 @@
-//! The marked plans and the other cases that 01 names ('Plans that settle an argument').
+//! The marked plans and the other cases that 01 names ('Plans that settle an argument'), as 02 changes them.
 
 /// A file put together by hand, field by field.
 #[derive(Clone, Default)]
@@ -81,7 +81,7 @@ pub fn marked() -> Vec<Plan> {
         plan("m3: the first 4 bytes", plan_a()[..4].to_vec(), 2, 0),
         plan("m4: JDS", plan_a_with(5, b"S"), 3, 0),
         plan("m5: version length 4", plan_a_with(6, &[0, 0, 0, 4]), 4, 6),
-        plan("m6: version 1.5", plan_a_with(15, b"5"), 4, 10),
+        plan("m6: version 1.6", plan_a_with(15, b"6"), 4, 10),
         plan("m7: settings 2", plan_a_with(16, &[2]), 5, 16),
         plan("m8: outer id T", plan_a_with(18, b"T"), 7, 17),
         plan("m9: n = 0", plan_a_with(19, &[0, 0, 0, 0]), 8, 19),

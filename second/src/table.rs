@@ -1,4 +1,4 @@
-//! The table of a drawing (01, 'The table') and the answer of the read call.
+//! The table of a drawing (01, 'The table'; 02, R-1) and the answer of the read call.
 
 use crate::answer::Answer;
 use crate::layout::{self, Fields, Kind};
@@ -60,6 +60,7 @@ fn add_object(table: &mut Table, version: Version, object: &Object, parent: u32)
         Object::Path(_) => 2,
         Object::Text(_) => 3,
         Object::Bitmap(_) => 4,
+        Object::TextPath(_) => 5,
     };
     let row = open_row(table, kind, parent);
     let start = table.bodies.len();

@@ -1,19 +1,20 @@
-//! What each version has (01, 'What a plan may contain' and 'Fields').
+//! What each version has (01, 'What a plan may contain' and 'Fields'; 02, R-1).
 
-/// A version 1.0 to 1.4, named by its minor number.
+/// A version 1.0 to 1.5, named by its minor number.
 #[derive(Clone, Copy, Debug, PartialEq, Eq, PartialOrd, Ord)]
 pub struct Version {
     minor: u8,
 }
 
 impl Version {
-    /// The five versions that a plan may have.
-    pub const ALL: [Version; 5] = [
+    /// The six versions that a plan may have.
+    pub const ALL: [Version; 6] = [
         Version { minor: 0 },
         Version { minor: 1 },
         Version { minor: 2 },
         Version { minor: 3 },
         Version { minor: 4 },
+        Version { minor: 5 },
     ];
 
     /// The version of this minor number, if it is listed.
@@ -60,9 +61,14 @@ impl Version {
         self.minor >= 3
     }
 
-    /// 'In 1.4, if overlay is 0', two flags, each with an offset if 1.
+    /// 'In 1.4, if overlay is 0', two flags, each with an offset if 1; so too in 1.5.
     pub fn has_marker_offsets(self) -> bool {
         self.minor >= 4
+    }
+
+    /// 1.5 'is 1.4 with one more object, X'.
+    pub fn has_text_paths(self) -> bool {
+        self.minor >= 5
     }
 
     /// Paper: '0 to 18 below 1.3, 0 to 72 from 1.3'.
@@ -74,7 +80,7 @@ impl Version {
         }
     }
 
-    /// Marker id: '0 to 7' in 1.0, '0 to 21 (0 to 79 in 1.4)' from 1.1.
+    /// Marker id: '0 to 7' in 1.0, '0 to 21 (0 to 79 in 1.4)' from 1.1; in 1.5 as in 1.4.
     pub fn highest_marker(self) -> i8 {
         match self.minor {
             0 => 7,
@@ -100,10 +106,17 @@ impl Version {
             _ => b"TRCYSGD",
         }
     }
+
+    /// The letters of the objects: group, path, text, bitmap, and from 1.5 text along a path.
+    pub fn object_letters(self) -> &'static [u8] {
+        if self.has_text_paths() {
+            b"GPTIX"
+        } else {
+            b"GPTI"
+        }
+    }
 }
 
-/// The letters of the objects: group, path, text, bitmap.
-pub const OBJECT_LETTERS: &[u8] = b"GPTI";
 /// The letter of the outer object: 'the file is its head and one group'.
 pub const OUTER_LETTERS: &[u8] = b"G";
 /// Open or closed.

@@ -2,9 +2,11 @@
 
 mod hand;
 
-use hand::{bitmap_1_1, path_1_0, path_1_4, text_1_2, PATH_1_0, PATH_1_4, TEXT_1_2};
+use hand::{
+    bitmap_1_1, path_1_0, path_1_4, text_1_2, text_path_1_5, PATH_1_0, PATH_1_4, TEXT_1_2, TEXT_PATH_1_5,
+};
 use second::plans::{plan_a, Hand};
-use second::{check, read, table, write};
+use second::{check, lister, read, table, write};
 
 /// Number and offset of the refusal, or 0 and the file's length.
 fn answer(file: &[u8]) -> (u32, u32) {
@@ -39,6 +41,22 @@ fn tables_by_hand() {
     assert_table(&path_1_0(), &[1, 0, 36, 2, 2, 0, 2, 34], &PATH_1_0);
     assert_table(&path_1_4(), &[1, 0, 57, 4, 2, 0, 2, 55], &PATH_1_4);
     assert_table(&text_1_2(), &[1, 0, 55, 3, 3, 0, 16, 39], &TEXT_1_2);
+    assert_table(&text_path_1_5(), &[1, 0, 54, 3, 5, 0, 2, 52], &TEXT_PATH_1_5);
+}
+
+#[test]
+fn what_1_4_has_is_the_same_in_1_5() {
+    let mut file = path_1_4();
+    file[15] = b'5';
+    let mut bodies = PATH_1_4;
+    bodies[0] = 5;
+    assert_table(&file, &[1, 0, 57, 4, 2, 0, 2, 55], &bodies);
+}
+
+#[test]
+fn the_lister_prints_an_x() {
+    let table = table::of(&read::drawing(&text_path_1_5()).unwrap());
+    assert_eq!(lister::lines(&table), "1.5 2 57\n0 G 0 54 3\n1 X 0 2 52\n");
 }
 
 #[test]
@@ -55,6 +73,7 @@ fn lengths_by_hand() {
     assert_eq!(path_1_0().len(), 134);
     assert_eq!(path_1_4().len(), 196);
     assert_eq!(text_1_2().len(), 192);
+    assert_eq!(text_path_1_5().len(), 200);
 }
 
 #[test]
@@ -73,6 +92,10 @@ fn head_refusals() {
     assert_eq!(with(&file, 45, &[2]), (5, 45));
     assert_eq!(with(&file, 46, &[4]), (6, 46));
     assert_eq!(with(&file, 55, b"\0P"), (7, 55));
+    assert_eq!(with(&file, 55, b"\0X"), (7, 55));
+    assert_eq!(with(&text_path_1_5(), 17, b"\0X"), (7, 17));
+    assert_eq!(with(&text_path_1_5(), 15, b"6"), (4, 10));
+    assert_eq!(with(&plan_a(), 15, b"5"), (2, 81), "a description is wanted");
 }
 
 #[test]
@@ -229,6 +252,54 @@ fn text_refusals() {
     assert_eq!(with(&file, 172, &[0; 4]), (8, 172));
     assert_eq!(with(&file, 172, &[255; 4]), (8, 172));
     assert_eq!(with(&file, 181, &[255; 4]), (8, 181));
+}
+
+#[test]
+fn an_x_below_1_5_is_7() {
+    for digit in b'0'..=b'4' {
+        assert_eq!(with(&text_path_1_5(), 15, &[digit]), (7, 23));
+    }
+    let table = table::of(&read::drawing(&text_path_1_5()).unwrap());
+    for minor in [0, 1, 2, 3, 4, 6] {
+        let mut bodies = table.bodies.clone();
+        bodies[0] = minor;
+        assert!(check::good(&table.contents, &bodies).is_none());
+    }
+}
+
+#[test]
+fn refusals_in_a_text_along_a_path() {
+    let file = text_path_1_5();
+    assert_eq!(with(&file, 25, b"\0X"), (7, 25));
+    assert_eq!(with(&file, 27, &float(2.0)), (9, 27));
+    assert_eq!(with(&file, 35, &[255; 4]), (8, 35));
+    assert_eq!(with(&file, 41, &[2]), (6, 41));
+    assert_eq!(with(&file, 42, &[2]), (6, 42));
+    assert_eq!(with(&file, 43, &[255; 4]), (6, 43));
+    assert_eq!(with(&file, 95, &[2]), (5, 95));
+    assert_eq!(with(&file, 114, &[3]), (6, 114));
+    assert_eq!(with(&file, 115, &[4]), (6, 115));
+    assert_eq!(with(&file, 116, &[255; 4]), (8, 116));
+    assert_eq!(with(&file, 122, &[0; 4]), (8, 122));
+    assert_eq!(with(&file, 130, b"\0o"), (7, 130));
+    assert_eq!(with(&file, 130, b"\0C"), (0, 200));
+    assert_eq!(with(&file, 132, &[0; 4]), (8, 132));
+    assert_eq!(with(&file, 132, &[255; 4]), (8, 132));
+    assert_eq!(with(&file, 132, &[0, 0, 0, 3]), (7, 188), "one segment more than there are");
+    assert_eq!(with(&file, 136, &[255; 8]), (0, 200), "no start has to join");
+    assert_eq!(with(&file, 152, b"\0X"), (7, 152));
+    assert_eq!(with(&file, 188, &[1]), (11, 188));
+    assert_eq!(with(&file, 188, &[2]), (5, 188));
+    assert_eq!(with(&file, 189, &[255; 4]), (8, 189));
+}
+
+#[test]
+fn an_outline_is_cut_at_the_field_that_is_missing() {
+    let file = text_path_1_5();
+    for (kept, field) in [(130, 130), (133, 132), (140, 136), (144, 144), (153, 152), (160, 154), (169, 162)]
+    {
+        assert_eq!(answer(&file[..kept]), (2, field));
+    }
 }
 
 #[test]

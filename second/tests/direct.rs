@@ -2,7 +2,9 @@
 
 use second::damage::fields::{of_bodies, of_file};
 use second::damage::{files, tables};
-use second::generate::special::{of_depth, padded, plain_bitmap, plain_drawing, sampler, with_chains};
+use second::generate::special::{
+    of_depth, padded, plain_bitmap, plain_drawing, sampler, with_chains, with_text_path,
+};
 use second::generate::{self, all_labels, chars};
 use second::model::{Bitmap, Drawing, Group, Object};
 use second::random::Random;
@@ -98,6 +100,9 @@ fn drawings_at_limits() {
             for length in 3..=6 {
                 all_alike(&mut random, &with_chains(3, version, [length, 0, length]), 20);
             }
+        }
+        for latex in [false, true] {
+            all_alike(&mut random, &with_text_path(9, version, latex), 60);
         }
         for length in 65_533..=65_537 {
             all_alike(&mut random, &padded(generate::drawing(5, version, 20_000), length), 3);

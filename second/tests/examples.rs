@@ -29,6 +29,13 @@ fn labels_at_several_depths() {
 }
 
 #[test]
+fn texts_along_paths() {
+    let lines = ["row 2 text inside 1 0 shows Line 2", "row 3 textpath inside 1 0 shows Aisle 2"];
+    assert_eq!(rows("aisles.jdr", "line 2"), lines);
+    assert_eq!(rows("aisles.jdr", "machine"), ["row 4 textpath inside 0 shows \\textbf{Robot}"]);
+}
+
+#[test]
 fn a_parent_is_not_the_group_that_ended_last() {
     assert_eq!(
         rows("bays.jdr", "Fräse 🔧"),

@@ -4,7 +4,7 @@ use second::damage::faults::faults;
 use second::damage::fields::of_file;
 use second::damage::files::put;
 use second::generate;
-use second::generate::special::sampler;
+use second::generate::special::{sampler, with_text_path};
 use second::model::Drawing;
 use second::read::{self, Refusal};
 use second::version::Version;
@@ -46,10 +46,21 @@ fn every_fault_has_its_number_and_offset() {
             }
         }
     }
-    for version in 0..=4 {
+    for version in Version::ALL.map(Version::minor) {
         for number in 3..=12 {
             let there = number != 12 || version < 3;
             assert_eq!(seen.contains_key(&(version, number)), there, "1.{version}: {number}");
+        }
+    }
+}
+
+#[test]
+fn a_text_along_a_path_is_7_at_its_id_char_below_1_5() {
+    for version in Version::ALL {
+        for latex in [false, true] {
+            let refusal = read::drawing(&write::file(&with_text_path(4, version, latex))).err();
+            let wanted = Refusal { number: 7, offset: 23 };
+            assert_eq!(refusal, (!version.has_text_paths()).then_some(wanted));
         }
     }
 }

@@ -160,6 +160,38 @@ fn components_of_negative_zero_are_asked_for() {
     }
 }
 
+/// The rows of a case that are texts along paths and are asked about.
+fn texts_along_paths(asked: &Asked) -> Vec<u32> {
+    (0..asked.rows).filter(|row| asked.good.table.row(*row).is_some_and(|words| words[0] == 5)).collect()
+}
+
+#[test]
+fn texts_along_paths_are_listed_and_asked_about() {
+    for version in Version::ALL {
+        let mut colors = BTreeSet::new();
+        let mut alternatives = BTreeSet::new();
+        let mut listed = 0;
+        for asked in cases(version) {
+            let entries = list::entries(&asked.good.drawing, &asked.label);
+            for row in texts_along_paths(&asked) {
+                let answer = paint(&asked, row, 2);
+                colors.insert((answer.form, answer.first.kind));
+                alternatives.insert(ask::text(Some(&asked.good), row).alternative_length > 0);
+                assert_eq!([0, 1, 3].map(|which| paint(&asked, row, which).number), [7; 3]);
+                listed += usize::from(entries.contains(&row));
+            }
+        }
+        if version.has_text_paths() {
+            assert!((0..5).all(|kind| colors.contains(&(0, kind))), "{colors:?}");
+            assert!([1, 2].iter().all(|form| colors.iter().any(|color| color.0 == *form)), "{colors:?}");
+            assert_eq!(alternatives.len(), 2);
+            assert!(listed > 5, "{listed}");
+        } else {
+            assert!(colors.is_empty());
+        }
+    }
+}
+
 #[test]
 fn texts_are_there_with_and_without_latex_fields() {
     for version in Version::ALL {

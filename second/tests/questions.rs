@@ -2,7 +2,7 @@
 
 mod hand;
 
-use hand::{bitmap_1_1, path_1_0, path_1_4, text_1_2};
+use hand::{bitmap_1_1, path_1_0, path_1_4, text_1_2, text_path_1_5};
 use second::answer::{Answer, TextAnswer};
 use second::ask::{paint, shown, text};
 use second::check::{good, Good};
@@ -26,6 +26,8 @@ fn labels_by_hand() {
     assert_eq!(entries(&good.drawing, &chars("mm")), [0; 0]);
     let good = table_of(&path_1_4());
     assert_eq!(entries(&good.drawing, &chars("m")), [0]);
+    let good = table_of(&text_path_1_5());
+    assert_eq!(entries(&good.drawing, &chars("m")), [1]);
     let below = table_of(&bitmap_1_1());
     assert_eq!(entries(&below.drawing, &[]), [0, 1, 2, 3]);
     assert_eq!(entries(&below.drawing, &chars("m")), [0; 0]);
@@ -77,6 +79,8 @@ fn paints_by_hand() {
     assert_eq!(paint(Some(&below), 1, 1).words()[3..9], [1, 0, quarter, half, one, 0]);
     let text = table_of(&text_1_2());
     assert_eq!(paint(Some(&text), 1, 2).words()[3..9], [2, 0, 0, 0, 0, one]);
+    let along = table_of(&text_path_1_5());
+    assert_eq!(paint(Some(&along), 1, 2).words(), [0, 0, 0, 3, half, one, 0, 0, 0, 0, 0, 0, 0, 0, 0]);
 }
 
 #[test]
@@ -97,6 +101,11 @@ fn refused_questions() {
     assert_eq!(text(Some(&path), 2), TextAnswer::refused(6));
     assert_eq!(text(Some(&path), 1), TextAnswer::refused(7));
     assert_eq!(text(Some(&path), 0), TextAnswer::refused(7));
+    let along = table_of(&text_path_1_5());
+    for which in [0, 1, 3] {
+        assert_eq!(paint(Some(&along), 1, which).words(), refused(7));
+    }
+    assert_eq!(paint(Some(&along), 2, 2).words(), refused(6));
 }
 
 #[test]
@@ -107,6 +116,15 @@ fn text_places_by_hand() {
         alternative_start: 43,
         alternative_length: 0,
         text_start: 50,
+        text_length: 2,
+    };
+    assert_eq!(text(Some(&good), 1), places);
+    let good = table_of(&text_path_1_5());
+    let places = TextAnswer {
+        number: 0,
+        alternative_start: 31,
+        alternative_length: 1,
+        text_start: 33,
         text_length: 2,
     };
     assert_eq!(text(Some(&good), 1), places);
@@ -122,11 +140,15 @@ fn places_hold_the_chars() {
         let mut row = 0;
         for object in &drawing.outer.objects {
             row += 1;
-            let Object::Text(inner) = object else { continue };
+            let inner = match object {
+                Object::Text(text) => text,
+                Object::TextPath(along) => &along.text,
+                _ => continue,
+            };
             let answer = text(Some(&good), row);
             let plain = run(answer.text_start, answer.text_length);
             assert!(plain.iter().copied().eq(inner.text.iter().map(|char| u32::from(*char))));
-            let Some(latex) = &inner.latex else {
+            let Some(latex) = &inner.style.latex else {
                 assert_eq!((answer.alternative_start, answer.alternative_length), (0, 0));
                 continue;
             };

@@ -3,7 +3,9 @@
 use second::damage::fields::{of_file, Field};
 use second::layout::Kind;
 use second::make::reads;
-use second::model::{Chain, Drawing, Marker, Markers, Object, Paint, Path, Plain, Segment, Settings, Text};
+use second::model::{
+    Chain, Drawing, Marker, Markers, Object, Outline, Paint, Path, Plain, Segment, Settings, Text, TextPath,
+};
 use second::read;
 use second::version::Version;
 use std::collections::BTreeSet;
@@ -46,24 +48,21 @@ fn look_at_object(seen: &mut Seen, object: &Object) {
             group.objects.iter().for_each(|object| look_at_object(seen, object));
         }
         Object::Path(path) => look_at_path(seen, path),
-        Object::Text(text) => look_at_text(seen, text),
+        Object::Text(text) => look_at_text(seen, "text", text),
         Object::Bitmap(bitmap) => see(seen, format!("bitmap, strings {}", bitmap.latex.is_some())),
+        Object::TextPath(TextPath { text, outline }) => {
+            look_at_text(seen, "along", text);
+            look_at_outline(seen, "along", outline);
+        }
     }
 }
 
 fn look_at_path(seen: &mut Seen, path: &Path) {
     look_at_paint(seen, "line", &path.line);
     look_at_paint(seen, "fill", &path.fill);
-    see(seen, format!("closed {}", path.closed));
+    look_at_outline(seen, "path", &path.outline);
     see(seen, format!("dashes {}", path.style.dashes.is_some()));
     see(seen, format!("join {}", path.style.join));
-    for segment in &path.segments {
-        match segment {
-            Segment::Bezier(_) => see(seen, "segment B"),
-            Segment::Line(_) => see(seen, "segment L"),
-            Segment::Move(_) => see(seen, "segment M"),
-        }
-    }
     match &path.style.markers {
         Markers::Arrows { start, end } => {
             see(seen, format!("start {}", usize::from(start.is_some())));
@@ -72,6 +71,17 @@ fn look_at_path(seen: &mut Seen, path: &Path) {
         Markers::Chains { start, mid, end } => {
             let chains = [("start", start), ("mid", mid), ("end", end)];
             chains.into_iter().for_each(|(place, chain)| look_at_chain(seen, place, chain));
+        }
+    }
+}
+
+fn look_at_outline(seen: &mut Seen, place: &str, outline: &Outline) {
+    see(seen, format!("{place} closed {}", outline.closed));
+    for segment in &outline.segments {
+        match segment {
+            Segment::Bezier(_) => see(seen, format!("{place} segment B")),
+            Segment::Line(_) => see(seen, format!("{place} segment L")),
+            Segment::Move(_) => see(seen, format!("{place} segment M")),
         }
     }
 }
@@ -87,11 +97,11 @@ fn look_at_chain(seen: &mut Seen, place: &str, chain: &Chain) {
     }
 }
 
-fn look_at_text(seen: &mut Seen, text: &Text) {
-    look_at_paint(seen, "text", &text.paint);
-    match &text.latex {
-        None => see(seen, "text without LaTeX"),
-        Some(latex) => see(seen, format!("text, alternative {}", !latex.alternative.is_empty())),
+fn look_at_text(seen: &mut Seen, place: &str, text: &Text) {
+    look_at_paint(seen, place, &text.paint);
+    match &text.style.latex {
+        None => see(seen, format!("{place} without LaTeX")),
+        Some(latex) => see(seen, format!("{place} alternative {}", !latex.alternative.is_empty())),
     }
 }
 
@@ -118,31 +128,49 @@ fn letter(plain: &Plain) -> char {
 }
 
 /// The parts that every version has.
-const EVERYWHERE: [&str; 19] = [
+const EVERYWHERE: [&str; 11] = [
     "group",
     "bitmap, strings true",
     "bitmap, strings false",
-    "closed true",
-    "closed false",
     "dashes true",
     "dashes false",
     "join 0",
     "join 1",
     "join 2",
-    "segment B",
-    "segment L",
-    "segment M",
-    "text without LaTeX",
-    "text, alternative true",
-    "text, alternative false",
     "settings none",
     "settings all, own paper true",
     "settings all, own paper false",
 ];
 
+/// The parts of every object that has an outline, and of every one that has a text.
+const OF_OUTLINES: [&str; 5] = ["closed true", "closed false", "segment B", "segment L", "segment M"];
+const OF_TEXTS: [&str; 3] = ["without LaTeX", "alternative true", "alternative false"];
+
+/// The objects of a version that have an outline, and those that have a text.
+fn outlines(version: Version) -> &'static [&'static str] {
+    if version.has_text_paths() {
+        &["path", "along"]
+    } else {
+        &["path"]
+    }
+}
+
+fn texts(version: Version) -> &'static [&'static str] {
+    if version.has_text_paths() {
+        &["text", "along"]
+    } else {
+        &["text"]
+    }
+}
+
 /// What a version has, from its letters and the tests in `version`.
 fn wanted(version: Version) -> Seen {
     let mut wanted: Seen = EVERYWHERE.map(String::from).into();
+    for (places, parts) in [(outlines(version), &OF_OUTLINES[..]), (texts(version), &OF_TEXTS[..])] {
+        for place in places {
+            parts.iter().for_each(|part| see(&mut wanted, format!("{place} {part}")));
+        }
+    }
     paints_wanted(&mut wanted, version);
     markers_wanted(&mut wanted, version);
     if version.has_descriptions() {
@@ -158,7 +186,8 @@ fn wanted(version: Version) -> Seen {
 fn paints_wanted(wanted: &mut Seen, version: Version) {
     let letters = |letters: &'static [u8]| letters.iter().map(|letter| char::from(*letter));
     for letter in letters(version.paint_letters()) {
-        ["line", "fill", "text"].iter().for_each(|place| see(wanted, format!("{place} {letter}")));
+        let places = ["line", "fill"].iter().chain(texts(version));
+        places.for_each(|place| see(wanted, format!("{place} {letter}")));
     }
     for plain in letters(version.plain_letters()) {
         for form in letters(version.paint_letters()).filter(|letter| "GD".contains(*letter)) {

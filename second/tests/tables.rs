@@ -102,7 +102,7 @@ fn the_fields_of_the_bodies_stand_where_they_are_said_to() {
 
 #[test]
 fn runs_have_exactly_the_used_words() {
-    let table = table::of(&sampler(2, Version::ALL[4]));
+    let table = table::of(&sampler(2, Version::ALL[5]));
     assert!(is_good(&table));
     for change in [-4isize, -1, 1, 4] {
         let mut other = table.clone();

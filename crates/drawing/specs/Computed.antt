@@ -11,13 +11,12 @@ use Rattle.drawing.specs.declared.PaintAnswer.the-variants.{Refused}
 use Rattle.drawing.specs.declared.Which.{Which}
 use Rattle.drawing.specs.declared.TextAnswer.{TextAnswer}
 use Rattle.drawing.specs.String.{String}
-use Rattle.drawing.specs.ObjectId.{textOf}
 use Rattle.drawing.specs.Drawing.{Drawing}
 use Rattle.drawing.specs.Reading.{Reading, drawing, refusal, drawingOf}
 use Rattle.drawing.specs.Table.{startIn}
 use Rattle.drawing.specs.TableDrawing.{drawingOfTable}
 use Rattle.drawing.specs.Answers.{ReadResult, unread, roomFault, stored, tableRefused, tableChecked, Output, nothingStored, tableWritten, tableListed}
-use Rattle.drawing.specs.Questions.{partOf, leafPart, paintAsked, TextGiven, noText, textPlaces}
+use Rattle.drawing.specs.Questions.{partOf, paintAsked, TextGiven, noText, textPart, textPlaces}
 
 -- What a call comes to for the table of a drawing, and for runs that are no table.
 abbrev pub fromTable : {R : Type 0} → (Drawing → R) → R → Option Drawing → R
@@ -64,7 +63,7 @@ textValue g = record { number = g .answer .number; alternative = g .alternative;
 
 -- The text whose body begins where the table's row says.
 abbrev pub textIn : (contents : List ℕ) → ℕ → Drawing → TextAnswer
-textIn contents row d = textValue (textPlaces (startIn contents row) (d .version) (partOf (leafPart textOf) row d))
+textIn contents row d = textValue (textPlaces (startIn contents row) (d .version) (partOf (textPart (d .version)) row d))
 
 abbrev pub textAnswer : (contents bodies : List ℕ) → ℕ → TextAnswer
 textAnswer contents bodies row = fromTable (textIn contents row) (textValue (noText noTable)) (drawingOfTable contents bodies)

@@ -3,7 +3,7 @@ use mathlib.Core.Path.{_≡_, refl}
 use mathlib.Core.Bool.{Bool, true, false, _&&_}
 use Prim.Native.Nat.{ℕ, zero, suc, _<_, _≤_, _+_, _-_, _^_}
 use lib.Dec.{T, eqb, leb, ltb, ltb→lt}
-use borrow.Author.Tests.{eqb-true, eqb-false, leb-true}
+use borrow.Author.Tests.{eqb-true, eqb-false, leb-true, le-leb, lt-ltb}
 use native.Mathlib.Omega.{arith}
 use Rattle.format.specs.Kind.{Allowed}
 use lib.IntN.{pos, negsuc}
@@ -53,6 +53,12 @@ in-range w low high v e = by (ltb v (2 ^ hbits w)) e
     by : (t : Bool) → inRange low high (sel t (pos v) (negsuc (2 ^ bits w - suc v))) ≡ true → (low ≤ v) × (v ≤ high)
     by true e = let b = and-both (leb low v) (leb v high) e in (leb-true low v (b .0), leb-true v high (b .1))
     by false e = let z : _≡_ {A = Bool} false true = e in absurd (let y : _≡_ {A = ℕ} 0 1 = cc in omega arith)
+
+-- And a number below the sign is in the range of signed numbers that it is in.
+pub in-signed : (w : Width) (low high v : ℕ) → high < 2 ^ hbits w → low ≤ v → v ≤ high → inRange low high (toZ w v) ≡ true
+in-signed w low high v small least most =
+    let below : v < 2 ^ hbits w = omega arith in
+    rw (lt-ltb v (2 ^ hbits w) below, le-leb low v least, le-leb v high most)
 
 pub byte-in : (low high v : ℕ) → Allowed (byteIn low high) v → (low ≤ v) × (v ≤ high)
 byte-in low high v a = in-range w8 low high v (unless-zero (inRange low high (toZ w8 v)) 6 tt (a .faultless))

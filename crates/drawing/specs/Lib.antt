@@ -1,4 +1,4 @@
--- The drawing layer: JDR drawings of the versions 1.0 to 1.4, their files and tables, and what each call answers.
+-- The drawing layer: JDR drawings of the versions 1.0 to 1.5, their files and tables, and what each call answers.
 pub mod Numbers
 pub mod Limits
 pub mod Codecs
@@ -14,6 +14,7 @@ pub mod LineStyle
 pub mod Path
 pub mod Text
 pub mod Bitmap
+pub mod TextPath
 pub mod SettingsLaws
 pub mod Settings
 pub mod Object
@@ -29,6 +30,7 @@ pub mod Answers
 pub mod Questions
 pub mod Reading
 pub mod TableDrawing
+pub mod KindLaws
 pub mod Computed
 pub mod MarkedPlans
 pub mod examples

@@ -3,7 +3,7 @@ use Prim.Native.Nat.{ℕ}
 
 -- A version 1.m is its minor number m, from 0 to this one.
 abbrev pub lastMinor : ℕ
-lastMinor = 4
+lastMinor = 5
 
 -- the versions with which fields change
 abbrev pub v1-1 : ℕ
@@ -17,6 +17,9 @@ v1-3 = 3
 
 abbrev pub v1-4 : ℕ
 v1-4 = 4
+
+abbrev pub v1-5 : ℕ
+v1-5 = 5
 
 -- the most bytes that a file may have
 abbrev pub lengthLimit : ℕ

@@ -82,9 +82,9 @@ marked =
     ∷ refused (take 4 planA) 2 0
     -- m4: JDS
     ∷ refused (set planA 5 (code "S")) 3 0
-    -- m5: version length 4; m6: version 1.5
+    -- m5: version length 4; m6: version 1.6
     ∷ refused (set planA 9 4) 4 6
-    ∷ refused (set planA 15 (code "5")) 4 10
+    ∷ refused (set planA 15 (code "6")) 4 10
     -- m7: settings 2
     ∷ refused (set planA 16 2) 5 16
     -- m8: outer id T

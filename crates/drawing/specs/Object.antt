@@ -4,12 +4,14 @@ use Rattle.drawing.specs.String.{String}
 use Rattle.drawing.specs.Path.{Path}
 use Rattle.drawing.specs.Text.{Text}
 use Rattle.drawing.specs.Bitmap.{Bitmap}
+use Rattle.drawing.specs.TextPath.{TextPath}
 
 -- what a leaf has beside its description
 pub data Leaf : Type 0 where
   path : Path → Leaf
   text : Text → Leaf
   bitmap : Bitmap → Leaf
+  textPath : TextPath → Leaf
 
 -- An object, and a run of objects. A description is empty below 1.2.
 mutual

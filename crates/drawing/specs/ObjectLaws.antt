@@ -1,17 +1,19 @@
 -- A good object tells its id, and lists of objects are runs of objects.
-use mathlib.Core.Path.{_≡_, refl, sym, ap}
-use mathlib.Core.Bool.{Bool, true, false, cond}
+use mathlib.Core.Path.{_≡_, refl, sym, ap, ap₂, _∙_}
+use mathlib.Core.Bool.{Bool, true, false, cond, _&&_, _||_}
 use Prim.Native.Nat.{ℕ}
 use Prim.Native.Char.{code}
 use mathlib.Core.List.{List, [], _∷_}
-use lib.Dec.{eqb}
+use lib.Dec.{eqb, leb}
 use native.Mathlib.Omega.{arith}
-use borrow.Author.Tests.{eqb-true}
+use borrow.Author.Tests.{eqb-true, ne-eqb}
 use Rattle.format.specs.Kind.{Allowed}
 use Rattle.format.specs.Format.{Made}
 use Rattle.format.specs.Layout.{Layout}
 use Rattle.format.specs.AlternativeLaws.{chosen-tells}
-use Rattle.drawing.specs.Fields.{objectFault, objectId}
+use Rattle.drawing.specs.Numbers.{badChar}
+use Rattle.drawing.specs.Limits.{v1-5}
+use Rattle.drawing.specs.Fields.{unless, objectFault, objectId}
 use Rattle.drawing.specs.String.{String}
 use Rattle.drawing.specs.Object.{Object, leaf, group, Objects, listOf, ofList}
 use Rattle.drawing.specs.ObjectId.{objectLetter, leafOf, groupOf}
@@ -20,6 +22,40 @@ use Rattle.drawing.specs.LeafLayout.{pathCase, otherCases, isLeaf, leafB
 pub list-of-list : (os : List Object) → listOf (ofList os) ≡ os
 list-of-list [] = refl
 list-of-list (o ∷ os) = ap {B = List Object} (λ l. o ∷ l) (list-of-list os)
+
+-- The ids of leaves, and one more from 1.5 on; this computes for a known id, whatever the version.
+abbrev pub leafIds : (late : Bool) → ℕ → Bool
+leafIds late c = eqb c (code "T") || (eqb c (code "I") || (eqb c (code "P") || eqb c (code "X") && late))
+
+pub leaf-ids : (v c : ℕ) → isLeaf v c ≡ leafIds (leb v1-5 v) c
+leaf-ids v c = ap (λ t. eqb c (code "T") || (eqb c (code "I") || t)) (by (leb v1-5 v) (eqb c (code "X")) (eqb c (code "P")))
+  where
+    by : (late x p : Bool) → (late && x || p) ≡ (p || x && late)
+    by true true true = refl
+    by true true false = refl
+    by true false true = refl
+    by true false false = refl
+    by false true true = refl
+    by false true false = refl
+    by false false true = refl
+    by false false false = refl
+
+-- A group's id is no leaf's.
+pub group-no-leaf : (v : ℕ) → isLeaf v (code "G") ≡ false
+group-no-leaf v = leaf-ids v (code "G")
+
+pub text-path-fault : (v : ℕ) (deeper : Bool) → objectId (isLeaf v) deeper .fault (code "X") ≡ unless (leb v1-5 v) badChar
+text-path-fault v deeper = ap (λ t. objectFault t false deeper) (leaf-ids v (code "X")) ∙ by (leb v1-5 v)
+  where
+    by : (on : Bool) → objectFault on false deeper ≡ unless on badChar
+    by true = refl
+    by false = refl
+
+pub other-fault : (v : ℕ) (deeper : Bool) (c : ℕ) → (c ≡ code "I" → ⊥) → (c ≡ code "P" → ⊥) → (c ≡ code "T" → ⊥) → (c ≡ code "X" → ⊥) → (c ≡ code "G" → ⊥)
+    → objectId (isLeaf v) deeper .fault c ≡ badChar
+other-fault v deeper c i p t x g =
+    let none : leafIds (leb v1-5 v) c ≡ false = rw (ne-eqb c (code "T") t, ne-eqb c (code "I") i, ne-eqb c (code "P") p, ne-eqb c (code "X") x) refl in
+    ap₂ (λ l b. objectFault l b deeper) (leaf-ids v c ∙ none) (ne-eqb c (code "G") g)
 
 -- What an allowed id says: it is a leaf's, or a group's where one may nest.
 id-of-leaf : (l g : Bool) → objectFault l g false ≡ 0 → l ≡ true

@@ -1,4 +1,4 @@
--- Paths and their segments (01, 'Object', P).
+-- Paths (01, 'Object', P), and the outlines of segments that paths and texts along paths (R-1, X) have.
 use mathlib.Core.Path.{refl}
 use mathlib.Core.Bool.{Bool, true}
 use mathlib.Core.Option.{Option, none, some}
@@ -27,15 +27,18 @@ pub data Segment : Type 0 where
   line : (start end : Point) → Segment
   move : (start end : Point) → Segment
 
-pub record Path : Type 0 where
-  pub linePaint : Paint
-  pub fillPaint : Paint
-  pub style : LineStyle
+pub record Outline : Type 0 where
   -- the char O or C
   pub openOrClosed : ℕ
   -- a field from 1.3 on; below, the origin stands for it
   pub start : Point
   pub segments : List Segment
+
+pub record Path : Type 0 where
+  pub linePaint : Paint
+  pub fillPaint : Paint
+  pub style : LineStyle
+  pub outline : Outline
 
 abbrev pub origin : Point
 origin = record { x = 0; y = 0 }
@@ -87,19 +90,26 @@ abbrev pub segments : ℕ → ℕ → Layout (List Segment)
 segments v n = threaded n (segment (ltb v v1-3)) (λ before s. some (endOf s)) none
 
 -- A count, the start point from 1.3 on, and as many segments.
-abbrev pub outline : ℕ → Layout (Point × List Segment)
-outline v =
+abbrev pub countedSegments : ℕ → Layout (Point × List Segment)
+countedSegments v =
     implied
     (field segmentCount)
     (λ n. when (leb v1-3 v) point origin & segments v n)
     (λ t. length (t .1))
     (λ n t allowed good. each-length (λ before. segment (ltb v v1-3) before .Good) (λ before s. some (endOf s)) n none (t .1) (good .1))
 
+abbrev pub outline : ℕ → Layout Outline
+outline v =
+    renamed
+    (field (charWhere (oneOfChars (code "O" ∷ code "C" ∷ []))) & countedSegments v)
+    (λ (openOrClosed, (start, segments)). record { openOrClosed = openOrClosed; start = start; segments = segments })
+    (λ o. (o .openOrClosed, (o .start, o .segments)))
+    (λ t good. refl)
+
 abbrev pub path : ℕ → Layout Path
 path v =
     renamed
-    (paint v & paint v & lineStyle v & field (charWhere (oneOfChars (code "O" ∷ code "C" ∷ []))) & outline v)
-    (λ (linePaint, (fillPaint, (style, (openOrClosed, (start, segments))))).
-    record { linePaint = linePaint; fillPaint = fillPaint; style = style; openOrClosed = openOrClosed; start = start; segments = segments })
-    (λ p. (p .linePaint, (p .fillPaint, (p .style, (p .openOrClosed, (p .start, p .segments))))))
+    (paint v & paint v & lineStyle v & outline v)
+    (λ (linePaint, (fillPaint, (style, outline))). record { linePaint = linePaint; fillPaint = fillPaint; style = style; outline = outline })
+    (λ p. (p .linePaint, (p .fillPaint, (p .style, p .outline))))
     (λ t good. refl)

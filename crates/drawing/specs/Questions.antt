@@ -18,11 +18,10 @@ use Rattle.drawing.specs.declared.Span.{Span}
 use Rattle.drawing.specs.declared.TextAnswer.{TextAnswer}
 use Rattle.drawing.specs.declared.Answer.{Answer}
 use Rattle.drawing.specs.String.{String, string}
-use Rattle.drawing.specs.Choices.{ifFlag}
 use Rattle.drawing.specs.Paint as P
 use Rattle.drawing.specs.Text as T
-use Rattle.drawing.specs.Object.{Object, leaf, group, Leaf}
-use Rattle.drawing.specs.ObjectId.{pathOf, textOf}
+use Rattle.drawing.specs.Object.{Object, leaf, group, Leaf, path, text, bitmap, textPath}
+use Rattle.drawing.specs.ObjectId.{pathOf}
 use Rattle.drawing.specs.Drawing.{Drawing}
 use Rattle.drawing.specs.Table.{wordsOf, startIn, contentsOf}
 use Rattle.drawing.specs.Order.{objectsOf}
@@ -98,11 +97,18 @@ abbrev pub leafPart : {A : Type 0} → (Leaf → Option A) → Object → Option
 leafPart has (leaf l d) = has l
 leafPart has (group os d) = none
 
+-- The text that a leaf has: a text's own, or that of a text along a path.
+abbrev pub wording : Leaf → Option T.Text
+wording (path p) = none
+wording (text t) = some t
+wording (bitmap b) = none
+wording (textPath x) = some (x .text)
+
 -- The paint of this part, where an object has the part.
 abbrev pub paintPart : Which → Object → Option P.Paint
 paintPart Line o = Option·map (λ p. p .linePaint) (leafPart pathOf o)
 paintPart Fill o = Option·map (λ p. p .fillPaint) (leafPart pathOf o)
-paintPart Text o = Option·map (λ t. t .paint) (leafPart textOf o)
+paintPart Text o = Option·map (λ t. t .paint) (leafPart wording o)
 
 abbrev pub paintAsked : Which → ℕ → Drawing → PaintAnswer
 paintAsked which row d = paintValue (partOf (paintPart which) row d)
@@ -119,19 +125,26 @@ noSpan = span 0 []
 abbrev pub stringWords : String → ℕ
 stringWords s = length (wordsOf (string 0) s)
 
--- The words before the alternative's chars: the font, the flag, four strings, two bytes, and the length.
-abbrev pub beforeAlternative : T.Text → T.Latex → ℕ
-beforeAlternative t l =
-    length (wordsOf T.font (T.fontOf t)) + 1 + stringWords (l .family) + stringWords (l .series) + stringWords (l .shape) + stringWords (l .size) + 2 + 1
+-- The words of a style before the alternative's chars: the font, the flag, four strings, two bytes, and the length.
+abbrev pub beforeAlternative : T.TextStyle → T.Latex → ℕ
+beforeAlternative s l =
+    length (wordsOf T.font (T.fontOf s)) + 1 + stringWords (l .family) + stringWords (l .series) + stringWords (l .shape) + stringWords (l .size) + 2 + 1
 
--- The words before the text's chars: the font, the flag with the LaTeX fields, the paint, and the length.
+-- The words of a body before the style: none in a text, those of the paint in a text along a path.
+abbrev pub beforeStyle : ℕ → Leaf → ℕ
+beforeStyle v (path p) = 0
+beforeStyle v (text t) = 0
+beforeStyle v (bitmap b) = 0
+beforeStyle v (textPath x) = length (wordsOf (P.paint v) (x .text .paint))
+
+-- The words of a body before the text's chars: the style and the paint, in either order, and the length.
 abbrev pub beforeText : ℕ → T.Text → ℕ
-beforeText v t = length (wordsOf T.font (T.fontOf t)) + length (wordsOf (ifFlag T.latex) (t .latex)) + length (wordsOf (P.paint v) (t .paint)) + 1
+beforeText v t = length (wordsOf T.textStyle (t .style)) + length (wordsOf (P.paint v) (t .paint)) + 1
 
--- Where the alternative's chars stand, of a text whose body begins here.
-abbrev pub alternativeSpan : ℕ → T.Text → Option T.Latex → Span
-alternativeSpan start t none = noSpan
-alternativeSpan start t (some l) = span (start + beforeAlternative t l) (l .alternative)
+-- Where the alternative's chars stand, of a style that begins here.
+abbrev pub alternativeSpan : ℕ → T.TextStyle → Option T.Latex → Span
+alternativeSpan start s none = noSpan
+alternativeSpan start s (some l) = span (start + beforeAlternative s l) (l .alternative)
 
 -- What 01 asks of the answer: the number, with offset and counts 0, and the two places.
 pub record TextGiven : Type 0 where
@@ -147,15 +160,23 @@ textGiven r = record { answer = answer (r .number) 0 0 0; alternative = r .alter
 abbrev pub noText : ℕ → TextGiven
 noText n = record { answer = answer n 0 0 0; alternative = noSpan; text = noSpan }
 
+-- A text, with the words before its style.
+abbrev pub textPart : ℕ → Object → Option (ℕ × T.Text)
+textPart v o = leafPart (λ l. Option·map (λ t. (beforeStyle v l, t)) (wording l)) o
+
 -- And for a text in a drawing of this version, with a body that begins here.
-abbrev pub textPlaces : (start version : ℕ) → Found T.Text → TextGiven
+abbrev pub textPlaces : (start version : ℕ) → Found (ℕ × T.Text) → TextGiven
 textPlaces start v (refusal n) = noText n
-textPlaces start v (part t) =
-    record { answer = answer 0 0 0 0; alternative = alternativeSpan start t (t .latex); text = span (start + beforeText v t) (t .text) }
+textPlaces start v (part (before, t)) =
+    record {
+      answer = answer 0 0 0 0;
+      alternative = alternativeSpan (start + before) (t .style) (t .style .latex);
+      text = span (start + beforeText v t) (t .text);
+    }
 
 -- A body begins where its row says.
 abbrev pub textAsked : ℕ → Drawing → TextGiven
-textAsked row d = textPlaces (startIn (contentsOf d) row) (d .version) (partOf (leafPart textOf) row d)
+textAsked row d = textPlaces (startIn (contentsOf d) row) (d .version) (partOf (textPart (d .version)) row d)
 
 -- The alternative's chars; none without LaTeX fields.
 abbrev pub alternativeOf : Option T.Latex → String
@@ -175,4 +196,4 @@ shown alternativeLength alternative plain = cond (ltb 0 alternativeLength) alter
 
 -- The chars that are shown for a text.
 abbrev pub shownChars : T.Text → String
-shownChars t = shown (length (alternativeOf (t .latex))) (alternativeOf (t .latex)) (t .text)
+shownChars t = shown (length (alternativeOf (t .style .latex))) (alternativeOf (t .style .latex)) (t .text)

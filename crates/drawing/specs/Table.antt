@@ -10,7 +10,7 @@ use Rattle.format.specs.Layout.{Layout, field, encode, _&_}
 use Rattle.drawing.specs.Fields.{memberCount}
 use Rattle.drawing.specs.String.{String}
 use Rattle.drawing.specs.Settings.{settings}
-use Rattle.drawing.specs.Object.{Leaf, path, text, bitmap, Object, leaf, group, Objects, none, more, listOf}
+use Rattle.drawing.specs.Object.{Leaf, path, text, bitmap, textPath, Object, leaf, group, Objects, none, more, listOf}
 use Rattle.drawing.specs.ObjectId.{leafLetter}
 use Rattle.drawing.specs.LeafLayout.{leafBody, objectEnd}
 use Rattle.drawing.specs.Drawing.{Drawing, outer, Acceptable}
@@ -32,10 +32,14 @@ textKind = 3
 abbrev pub bitmapKind : ℕ
 bitmapKind = 4
 
+abbrev pub textPathKind : ℕ
+textPathKind = 5
+
 abbrev pub leafKind : Leaf → ℕ
 leafKind (path p) = pathKind
 leafKind (text t) = textKind
 leafKind (bitmap b) = bitmapKind
+leafKind (textPath x) = textPathKind
 
 -- A leaf's body: its fields after its id char.
 abbrev pub leafWords : ℕ → Leaf → String → List ℕ

@@ -17,9 +17,9 @@ use Rattle.drawing.specs.Fields.{integerIn}
 use Rattle.drawing.specs.String.{String, equal}
 use Rattle.drawing.specs.Settings.{Settings, settings}
 use Rattle.drawing.specs.Object.{Object, leaf, group, Objects, ofList}
-use Rattle.drawing.specs.LeafLayout.{leafBody}
+use Rattle.drawing.specs.LeafLayout.{isLeaf, leafBody}
 use Rattle.drawing.specs.Drawing.{Drawing, fileOf}
-use Rattle.drawing.specs.Table.{groupKind, pathKind, textKind, bitmapKind, groupOwn, row, rowWidth, kindIn, startIn}
+use Rattle.drawing.specs.Table.{groupKind, pathKind, textKind, bitmapKind, textPathKind, groupOwn, row, rowWidth, kindIn, startIn}
 
 -- Where a walk stands: the next row's number and the contents from there on, the next word's and the bodies from there on.
 pub record Place : Type 0 where
@@ -71,14 +71,16 @@ walkGroup v each parent words p =
     onward (body (groupOwn v) groupKind parent words q) (λ own r.
     provided (eqb (own .0) n) (met (ofList os, own .1) r)))
 
--- The id char of the leaf with this kind in its row.
+-- The id char of the leaf with this kind in its row; 0, which is no id, for other kinds.
 abbrev pub letterOf : ℕ → ℕ
-letterOf kind = cond (eqb kind pathKind) (code "P") (cond (eqb kind textKind) (code "T") (code "I"))
+letterOf kind =
+    cond (eqb kind pathKind) (code "P")
+    (cond (eqb kind textKind) (code "T") (cond (eqb kind bitmapKind) (code "I") (cond (eqb kind textPathKind) (code "X") 0)))
 
 abbrev pub walkLeaf : ℕ → (parent : ℕ) (words : List ℕ) → Place → Walk Object
 walkLeaf v parent words p =
     let kind = kindIn words 0 in
-    provided (leb pathKind kind && leb kind bitmapKind)
+    provided (isLeaf v (letterOf kind))
     (onward (body (leafBody v (letterOf kind)) kind parent words p) (λ (l, d) q. met (leaf l d) q))
 
 abbrev pub walkKind : (isGroup : Bool) → ℕ → (Place → Walk Object) → (parent : ℕ) (words : List ℕ) → Place → Walk Object

@@ -1,4 +1,4 @@
--- Texts (01, 'Object', T), and the transformations that texts and bitmaps have.
+-- Texts (01, 'Object', T), and the transformations that texts and bitmaps have. Texts along paths (R-1, X) have the same style.
 use mathlib.Core.Path.{refl}
 use mathlib.Core.Option.{Option}
 use Prim.Native.Nat.{ℕ}
@@ -19,7 +19,8 @@ pub record Latex : Type 0 where
   pub vertical : ℕ
   pub alternative : String
 
-pub record Text : Type 0 where
+-- A font with its LaTeX fields.
+pub record TextStyle : Type 0 where
   pub family : String
   pub shape : ℕ
   pub series : ℕ
@@ -27,6 +28,9 @@ pub record Text : Type 0 where
   -- the bits of six doubles
   pub transformation : List ℕ
   pub latex : Option Latex
+
+pub record Text : Type 0 where
+  pub style : TextStyle
   pub paint : Paint
   pub text : String
 
@@ -46,14 +50,22 @@ latex =
 abbrev pub font : Layout (String × (ℕ × (ℕ × (ℕ × List ℕ))))
 font = string 0 & field (byteIn 0 1) & field (byteIn 0 1) & field fontSize & transformation
 
-abbrev pub fontOf : Text → String × (ℕ × (ℕ × (ℕ × List ℕ)))
-fontOf t = (t .family, (t .shape, (t .series, (t .size, t .transformation))))
+abbrev pub fontOf : TextStyle → String × (ℕ × (ℕ × (ℕ × List ℕ)))
+fontOf s = (s .family, (s .shape, (s .series, (s .size, s .transformation))))
+
+abbrev pub textStyle : Layout TextStyle
+textStyle =
+    renamed
+    (font & ifFlag latex)
+    (λ ((family, (shape, (series, (size, transformation)))), latex).
+    record { family = family; shape = shape; series = series; size = size; transformation = transformation; latex = latex })
+    (λ s. (fontOf s, s .latex))
+    (λ t good. refl)
 
 abbrev pub text : ℕ → Layout Text
 text v =
     renamed
-    (font & ifFlag latex & paint v & string 1)
-    (λ ((family, (shape, (series, (size, transformation)))), (latex, (paint, text))).
-    record { family = family; shape = shape; series = series; size = size; transformation = transformation; latex = latex; paint = paint; text = text })
-    (λ t. (fontOf t, (t .latex, (t .paint, t .text))))
+    (textStyle & paint v & string 1)
+    (λ (style, (paint, text)). record { style = style; paint = paint; text = text })
+    (λ t. (t .style, (t .paint, t .text)))
     (λ t good. refl)

@@ -6,6 +6,7 @@ pub mod File11
 pub mod File12
 pub mod File13
 pub mod File14
+pub mod File15
 pub mod Cases
 pub mod PathCases
 pub mod Refusals

@@ -11,7 +11,7 @@ pub const VERSION_LENGTH_AT: usize = 6;
 // the chars 1.0; those of 1.m are m more
 pub const VERSION_ZERO: u64 = 0x31_002e_0030;
 
-pub const VERSION_LAST: u64 = 0x31_002e_0034;
+pub const VERSION_LAST: u64 = 0x31_002e_0035;
 
 pub const VERSION_AT: usize = 10;
 

@@ -9,6 +9,8 @@ pub const TEXT: u64 = 84;
 
 pub const BITMAP: u64 = 73;
 
+pub const TEXT_PATH: u64 = 88;
+
 // paints
 pub const TRANSPARENT: u64 = 84;
 

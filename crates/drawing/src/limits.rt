@@ -10,7 +10,9 @@ pub const V1_3: u32 = 3;
 
 pub const V1_4: u32 = 4;
 
-pub const LAST_MINOR: u32 = 4;
+pub const V1_5: u32 = 5;
+
+pub const LAST_MINOR: u32 = 5;
 
 // the most bytes that a file may have
 pub const LENGTH_LIMIT: usize = 65_535;

@@ -15,3 +15,5 @@ pub const PATH_KIND: u32 = 2;
 pub const TEXT_KIND: u32 = 3;
 
 pub const BITMAP_KIND: u32 = 4;
+
+pub const TEXT_PATH_KIND: u32 = 5;

@@ -5,7 +5,7 @@ use mathlib.Core.Option.{Option, none, some}
 use Prim.Native.Nat.{ℕ}
 use mathlib.Core.List.{List, [], _∷_}
 use lib.Dec.{eqb}
-use borrow.Author.Tests.{eqb-true}
+use borrow.Author.Tests.{eqb-true, eq-eqb}
 use Rattle.format.specs.Alternative.{Alternative, among, chosen, flagFor}
 use Rattle.format.specs.Format.{Made}
 
@@ -24,6 +24,16 @@ module _ {B : Type 0} {tagOf : B → ℕ} where
           → (among first xs c ≡ true → chosen first xs c .Good b → tagOf b ≡ c) → tagOf b ≡ c
       by true e h g more = x .tells b g ∙ sym (eqb-true c (x .tag) (and-right (x .on) (eqb c (x .tag)) e))
       by false e h g more = more h g
+
+  -- A good value of the layout that its own tag chooses is of an alternative that is on.
+  pub chosen-among : (first : Alternative B tagOf) (rest : List (Alternative B tagOf)) (b : B)
+      → first .on ≡ true → chosen first rest (tagOf b) .Good b → among first rest (tagOf b) ≡ true
+  chosen-among first [] b on g = ap (λ t. t && eqb (tagOf b) (first .tag)) on ∙ eq-eqb (tagOf b) (first .tag) (first .tells b g)
+  chosen-among first (x ∷ xs) b on g = by (x .on && eqb (tagOf b) (x .tag)) g (chosen-among first xs b on)
+    where
+      by : (t : Bool) → cond t (x .layout .Good b) (chosen first xs (tagOf b) .Good b) → (chosen first xs (tagOf b) .Good b → among first xs (tagOf b) ≡ true) → (t || among first xs (tagOf b)) ≡ true
+      by true g more = refl
+      by false g more = more g
 
 -- A part that stands where the flag has one value, and is absent where it has the other.
 pub flag-tells : {A : Type 0} (P : A → Type 0) (present absent v : ℕ) (o : Option A) (t : Bool) → eqb v present ≡ t → (eqb v present ≡ false → v ≡ absent)

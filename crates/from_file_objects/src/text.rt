@@ -124,12 +124,19 @@ pub fn latex_if(src: &[Unit], dst: &mut [Kept], at: usize, to: usize) -> Pass
     behind
 }
 
+pub fn text_style(src: &[Unit], dst: &mut [Kept], at: usize, to: usize) -> Pass
+    requires { ⌜ Begins (now src) at to ⌝ }
+    ensures { λ r. ⌜ Lays T.textStyle (now (src .entry)) (now (dst .entry)) (now (dst .exit)) at to r ⌝ }
+{
+    let set = font(&*src, dst, at, to);
+    latex_if(&*src, dst, set.at, set.to)
+}
+
 pub fn text(src: &[Unit], dst: &mut [Kept], at: usize, to: usize, version: u32) -> Pass
     requires { ⌜ Begins (now src) at to ⌝ }
     ensures { λ r. ⌜ Lays (T.text version) (now (src .entry)) (now (dst .entry)) (now (dst .exit)) at to r ⌝ }
 {
-    let set = font(&*src, dst, at, to);
-    let typeset = latex_if(&*src, dst, set.at, set.to);
-    let painted = paint(&*src, dst, typeset.at, typeset.to, version);
+    let styled = text_style(&*src, dst, at, to);
+    let painted = paint(&*src, dst, styled.at, styled.to, version);
     string(&*src, dst, painted.at, painted.to, 1)
 }

@@ -4,14 +4,30 @@ use crate::bitmap::bitmap;
 use crate::end::object_end;
 use crate::path::path;
 use crate::text::text;
+use crate::text_path::text_path;
 use drawing::letters::BITMAP;
 use drawing::letters::TEXT;
+use drawing::letters::TEXT_PATH;
+use drawing::limits::V1_5;
 use from_table::prims::Kept;
 use from_table::prims::Unit;
 use ways::Pass;
+ghost use mathlib.Core.Path.{_≡_};
+ghost use mathlib.Core.Bool.{_&&_};
+ghost use lib.Dec.{eqb, leb};
 ghost use Rattle.format.specs.Alternative.{chosen};
 ghost use Rattle.drawing.specs.LeafLayout.{pathCase, otherCases, leafBody};
 ghost use Rattle.from_table.specs.Lays.{Begins, Lays};
+
+// from 1.5 on
+fn is_text_path(version: u32, letter: u64) -> bool
+    ensures { λ r. ⌜ r ≡ (leb 5 version && eqb letter 88) ⌝ }
+{
+    if version < V1_5 {
+        return false;
+    }
+    letter == TEXT_PATH
+}
 
 pub fn leaf_parts(
     src: &[Unit],
@@ -29,6 +45,9 @@ pub fn leaf_parts(
     }
     if letter == BITMAP {
         return bitmap(&*src, dst, at, to);
+    }
+    if is_text_path(version, letter) {
+        return text_path(&*src, dst, at, to, version);
     }
     path(&*src, dst, at, to, version)
 }

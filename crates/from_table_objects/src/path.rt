@@ -1,5 +1,5 @@
 // Made by tools/ways from crates/from_file_objects.
-// Paths: two paints, a line style and an outline of segments.
+// Paths: two paints, a line style and an outline of segments, which texts along paths have too.
 use crate::segment::joined_segments;
 use crate::segment::segments;
 use drawing::limits::LEAST_SEGMENTS;
@@ -16,9 +16,9 @@ ghost use Rattle.drawing.specs.Path as P;
 ghost use Rattle.from_table.specs.Lays.{Begins, Lays};
 
 // A count, the start from 1.3 on, and as many segments.
-fn outline(src: &[Unit], dst: &mut [Kept], at: usize, to: usize, version: u32) -> Pass
+fn counted_segments(src: &[Unit], dst: &mut [Kept], at: usize, to: usize, version: u32) -> Pass
     requires { ⌜ Begins (now src) at to ⌝ }
-    ensures { λ r. ⌜ Lays (P.outline version) (now (src .entry)) (now (dst .entry)) (now (dst .exit)) at to r ⌝ }
+    ensures { λ r. ⌜ Lays (P.countedSegments version) (now (src .entry)) (now (dst .entry)) (now (dst .exit)) at to r ⌝ }
 {
     let told = count(&*src, dst, at, to, LEAST_SEGMENTS);
     let number = told.value;
@@ -30,6 +30,15 @@ fn outline(src: &[Unit], dst: &mut [Kept], at: usize, to: usize, version: u32) -
     segments(&*src, dst, start.at, start.to, number)
 }
 
+pub fn outline(src: &[Unit], dst: &mut [Kept], at: usize, to: usize, version: u32) -> Pass
+    requires { ⌜ Begins (now src) at to ⌝ }
+    ensures { λ r. ⌜ Lays (P.outline version) (now (src .entry)) (now (dst .entry)) (now (dst .exit)) at to r ⌝ }
+{
+    let told = closed_letter(&*src, dst, at, to);
+    let behind = told.pass;
+    counted_segments(&*src, dst, behind.at, behind.to, version)
+}
+
 pub fn path(src: &[Unit], dst: &mut [Kept], at: usize, to: usize, version: u32) -> Pass
     requires { ⌜ Begins (now src) at to ⌝ }
     ensures { λ r. ⌜ Lays (P.path version) (now (src .entry)) (now (dst .entry)) (now (dst .exit)) at to r ⌝ }
@@ -37,7 +46,5 @@ pub fn path(src: &[Unit], dst: &mut [Kept], at: usize, to: usize, version: u32) 
     let lined = paint(&*src, dst, at, to, version);
     let filled = paint(&*src, dst, lined.at, lined.to, version);
     let styled = line_style(&*src, dst, filled.at, filled.to, version);
-    let told = closed_letter(&*src, dst, styled.at, styled.to);
-    let behind = told.pass;
-    outline(&*src, dst, behind.at, behind.to, version)
+    outline(&*src, dst, styled.at, styled.to, version)
 }

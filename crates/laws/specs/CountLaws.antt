@@ -18,8 +18,8 @@ use Rattle.drawing.specs.Drawing.{Drawing, outer, fileOf, Acceptable}
 use Rattle.drawing.specs.Table.{groupOwn, groupWords, rows, rowsAll, bodies, bodiesAll, headWords, IsTable}
 use Rattle.drawing.specs.Answers.{rowsOf, wordCount}
 use Rattle.laws.specs.SizeLaws.{words-few}
-use Rattle.laws.specs.ObjectBytes.{bytesOf, many-bytes, leaf-bytes, group-body-bytes, file-bytes}
-use Rattle.laws.specs.ObjectGood.{good-group, no-group}
+use Rattle.laws.specs.ObjectBytes.{bytesOf, many-bytes, leaf-bytes, group-led, group-body-bytes, file-bytes}
+use Rattle.laws.specs.ObjectGood.{leaf-on, good-leaf, good-group, no-group}
 use Rattle.laws.specs.FileGood.{file-parts}
 use Rattle.laws.specs.WalkComplete.{AllGood}
 use Rattle.laws.specs.OrderLaws.{contents-length}
@@ -42,11 +42,12 @@ mutual
   pub object-counts : (v deep : ℕ) (o : Object) → object v deep .Good o → (rows o ≤ length (bytesOf (object v deep) o)) × (length (bodies o v) ≤ length (bytesOf (object v deep) o))
   object-counts v deep (leaf l d) g =
       let body = words-few (leafBody v (leafLetter l)) (l, d) in
-      let bytes = ap length (leaf-bytes v deep l d) in
+      let bytes = ap length (leaf-bytes v deep l d (leaf-on v l d (good-leaf v deep l d g))) in
       (omega arith, omega arith)
   object-counts v zero (group os d) g = absurd (no-group v os d g)
   object-counts v (suc deep) (group os d) g =
       let few = few-group v deep os d (all-counts v deep os (good-group v deep os d g .0 .1 .1)) in
+      let bytes = ap length (group-led v deep os d) in
       (omega arith, omega arith)
 
   all-counts : (v deep : ℕ) (os : Objects) → AllGood v deep os → Few (rowsAll os) (bodiesAll os v) (bytesOf (repeat 0 (object v deep)) (listOf os))

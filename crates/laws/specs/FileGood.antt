@@ -10,26 +10,18 @@ use mir.Val.{toZ}
 use Rattle.format.specs.Kind.{Allowed}
 use Rattle.drawing.specs.Limits.{lastMinor, depthLimit}
 use Rattle.drawing.specs.Fields.{unless, inRange, integerIn, versionChars, versionZero}
-use Rattle.drawing.specs.FieldLaws.{unless-zero, in-range, and-both}
+use Rattle.drawing.specs.FieldLaws.{unless-zero, in-range, in-signed, and-both}
 use Rattle.drawing.specs.Settings.{settings}
 use Rattle.drawing.specs.ObjectLayout.{object, groupBody}
 use Rattle.drawing.specs.Drawing.{Drawing, file}
 
-small : (v : ℕ) → v ≤ 4 → inRange 0 4 (toZ w32 v) ≡ true
-small zero h = refl
-small (suc zero) h = refl
-small (suc (suc zero)) h = refl
-small (suc (suc (suc zero))) h = refl
-small (suc (suc (suc (suc zero)))) h = refl
-small (suc (suc (suc (suc (suc n))))) h = absurd (omega arith)
-
 pub minor-small : (v : ℕ) → Allowed (integerIn 0 lastMinor) v → v ≤ lastMinor
-minor-small v a = in-range w32 0 4 v (unless-zero (inRange 0 4 (toZ w32 v)) 6 tt (a .faultless)) .1
+minor-small v a = in-range w32 0 lastMinor v (unless-zero (inRange 0 lastMinor (toZ w32 v)) 6 tt (a .faultless)) .1
 
 -- The minor version number of a table, and the version's chars of a file.
 minor-chars : (v : ℕ) → Allowed (integerIn 0 lastMinor) v → Allowed versionChars (versionZero + v)
 minor-chars v a =
-    let h : v ≤ 4 = minor-small v a in
+    let h = minor-small v a in
     let low : leb versionZero (versionZero + v) ≡ true = le-leb versionZero (versionZero + v) (omega arith) in
     let high : leb (versionZero + v) (versionZero + lastMinor) ≡ true = le-leb (versionZero + v) (versionZero + lastMinor) (omega arith) in
     record { fits = omega arith; faultless = rw (low, high) }
@@ -38,7 +30,7 @@ chars-minor : (v : ℕ) → Allowed versionChars (versionZero + v) → Allowed (
 chars-minor v a =
     let b = and-both (leb versionZero (versionZero + v)) (leb (versionZero + v) (versionZero + lastMinor)) (unless-zero (leb versionZero (versionZero + v) && leb (versionZero + v) (versionZero + lastMinor)) 4 tt (a .faultless)) in
     let h = leb-true (versionZero + v) (versionZero + lastMinor) (b .1) in
-    record { fits = omega arith; faultless = ap (λ t. unless t 6) (small v (omega arith)) }
+    record { fits = omega arith; faultless = ap (λ t. unless t 6) (in-signed w32 0 lastMinor v (omega arith) (omega arith) (omega arith)) }
 
 back-again : (v : ℕ) → versionZero + v - versionZero ≡ v
 back-again v = omega arith

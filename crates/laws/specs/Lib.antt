@@ -19,6 +19,7 @@ pub mod Standing
 pub mod StandingLaws
 pub mod RowBodies
 pub mod RowBodyLaws
+pub mod LeafPlaceLaws
 pub mod TextPlaceLaws
 pub mod AnswerLaws
 pub mod ParseLaws

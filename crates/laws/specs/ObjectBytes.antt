@@ -1,5 +1,6 @@
 -- The bytes of objects and of a file, by their parts: what stands behind what.
 use mathlib.Core.Path.{_≡_, refl, sym, ap, _∙_}
+use mathlib.Core.Bool.{true}
 use Prim.Native.Nat.{ℕ, zero, suc, _+_, _-_}
 use Prim.Native.Char.{code}
 use mathlib.Core.List.{List, [], _∷_, _++_, append-assoc}
@@ -9,16 +10,17 @@ use Rattle.format.specs.Kind.{Field}
 use Rattle.format.specs.Spelling.{Spelling, spellAll}
 use Rattle.format.specs.FixedCodec.{spellFixed}
 use Rattle.format.specs.Format.{fields}
-use Rattle.format.specs.Layout.{Layout, repeat, encode}
+use Rattle.format.specs.Layout.{Layout, repeat, either, encode}
 use Rattle.drawing.specs.Codecs.{byteFields}
 use Rattle.drawing.specs.Limits.{depthLimit}
 use Rattle.drawing.specs.Fields.{jdr, versionZero}
 use Rattle.drawing.specs.String.{String}
 use Rattle.drawing.specs.Settings.{settings}
-use Rattle.drawing.specs.Object.{Leaf, path, text, bitmap, leaf, group, Objects, listOf}
+use Rattle.drawing.specs.Object.{Leaf, leaf, group, Objects, listOf}
 use Rattle.drawing.specs.ObjectId.{leafLetter}
-use Rattle.drawing.specs.LeafLayout.{leafBody, objectEnd}
-use Rattle.drawing.specs.ObjectLayout.{object, groupBody}
+use Rattle.drawing.specs.LeafLayout.{isLeaf, leafBody, objectEnd}
+use Rattle.drawing.specs.ObjectLaws.{group-no-leaf}
+use Rattle.drawing.specs.ObjectLayout.{object, groupBody, leafObject, groupObject}
 use Rattle.drawing.specs.Drawing.{Drawing, fileOf}
 
 -- The bytes of a value, as `wordsOf` are its words.
@@ -48,11 +50,15 @@ many-append L m n k (a ∷ as′) bs =
 
 -- ---- objects
 
-pub leaf-bytes : (v deep : ℕ) (l : Leaf) (d : String) → bytesOf (object v deep) (leaf l d) ≡ digits 256 2 (leafLetter l) ++ bytesOf (leafBody v (leafLetter l)) (l, d)
-leaf-bytes v zero l d = refl
-leaf-bytes v (suc deep) (path x) d = refl
-leaf-bytes v (suc deep) (text x) d = refl
-leaf-bytes v (suc deep) (bitmap x) d = refl
+pub leaf-bytes : (v deep : ℕ) (l : Leaf) (d : String) → isLeaf v (leafLetter l) ≡ true
+    → bytesOf (object v deep) (leaf l d) ≡ digits 256 2 (leafLetter l) ++ bytesOf (leafBody v (leafLetter l)) (l, d)
+leaf-bytes v zero l d on = refl
+leaf-bytes v (suc deep) l d on =
+    ap (λ t. digits 256 2 (leafLetter l) ++ bytesOf (either t (leafObject v (leafLetter l)) (groupObject v (object v deep))) (leaf l d)) on
+
+pub group-led : (v deep : ℕ) (os : Objects) (d : String) → bytesOf (object v (suc deep)) (group os d) ≡ digits 256 2 (code "G") ++ bytesOf (groupBody v (object v deep)) (os, d)
+group-led v deep os d =
+    ap (λ t. digits 256 2 (code "G") ++ bytesOf (either t (leafObject v (code "G")) (groupObject v (object v deep))) (group os d)) (group-no-leaf v)
 
 module _ (v deep : ℕ) (os : Objects) (d : String) (n : ℕ) where
   -- Behind a group's id: its count, its members, and its own end.
@@ -62,7 +68,7 @@ module _ (v deep : ℕ) (os : Objects) (d : String) (n : ℕ) where
 
   pub group-bytes : bytesOf (object v (suc deep)) (group os d)
       ≡ digits 256 2 (code "G") ++ (digits 256 4 (length (listOf os)) ++ (bytesOf (repeat n (object v deep)) (listOf os) ++ bytesOf (objectEnd v) d))
-  group-bytes = ap (λ l. digits 256 2 (code "G") ++ l) group-body-bytes
+  group-bytes = group-led v deep os d ∙ ap (λ l. digits 256 2 (code "G") ++ l) group-body-bytes
 
 -- ---- a file
 

@@ -25,7 +25,7 @@ use Rattle.drawing.specs.Fields.{memberCount, objectFault, objectId}
 use Rattle.drawing.specs.String.{String}
 use Rattle.drawing.specs.Object.{Object, leaf, group, Objects, ofList, listOf}
 use Rattle.drawing.specs.ObjectId.{objectLetter, leafOf, groupOf}
-use Rattle.drawing.specs.ObjectLaws.{list-of-list, leaf-tells, object-tells}
+use Rattle.drawing.specs.ObjectLaws.{list-of-list, leaf-tells, object-tells, group-no-leaf}
 use Rattle.drawing.specs.LeafLayout.{isLeaf, leafBody, objectEnd}
 use Rattle.drawing.specs.ObjectLayout.{object, leafObject, groupObject, groupBody}
 use Rattle.laws.specs.CodecLaws.{bytes-sensible, bytes-literal}
@@ -68,7 +68,7 @@ leaf-id v c deeper a other = by (isLeaf v c) (eqb c (code "G")) (ne-eqb c (code 
 
 pub group-id : (v : ℕ) (deeper : Bool) → Allowed (objectId (isLeaf v) deeper) (code "G") → deeper ≡ true
 group-id v true a = refl
-group-id v false a = absurd (omega (arith, a .faultless))
+group-id v false a = let no : _≡_ {A = ℕ} 10 0 = ap (λ t. objectFault t true false) (sym (group-no-leaf v)) ∙ a .faultless in absurd (omega arith)
 
 -- An object that cannot be a group, and one that can.
 lone : (v : ℕ) (us : List ℕ) → parse bytes (object v zero) us ≡ andThen (bytes .read (objectId (isLeaf v) false) us) (λ c rest. parse bytes (leafObject v c) rest)
@@ -116,6 +116,7 @@ pub object-group : (v deep : ℕ) (us rest : List ℕ) → bytes .read (objectId
 object-group v deep us rest e =
     nested v deep us
     ∙ ap (λ o. andThen o (λ c rest. cond (isLeaf v c) (parse bytes (leafObject v c) rest) (parse bytes (groupObject v (object v deep)) rest))) e
+    ∙ ap (λ t. cond t (parse bytes (leafObject v (code "G")) rest) (parse bytes (groupObject v (object v deep)) rest)) (group-no-leaf v)
     ∙ parse-case bytes (groupBody v (object v deep)) (λ (os, d). group os d) groupOf (λ t good. refl) rest
 
 -- ---- a group: its count, its members, its end

@@ -1,12 +1,15 @@
 -- Of two things that stand at a place, the second stands behind the first.
-use mathlib.Core.Path.{_≡_, sym, ap, subst, _∙_}
+use mathlib.Core.Path.{_≡_, refl, sym, ap, subst, _∙_}
+use mathlib.Core.Bool.{true, false, _&&_}
 use Prim.Native.Nat.{ℕ, _+_, _<_, _≤_}
 use native.Mathlib.Nat.{add-zero}
 use native.Mathlib.Omega.{arith}
 use mathlib.Core.List.{List, _∷_, _++_, append-assoc}
 use lib.ListN.{length, drop, getD, length-append, length-drop}
+use lib.Dec.{eqb}
 use lib.Seq.{drop-drop, drop-append-seam, getD-drop}
-use Rattle.format.specs.Layout.{Layout, _&_}
+use Rattle.format.specs.Layout.{Layout, either, _&_}
+use Rattle.format.specs.Alternative.{Alternative, chosen}
 use Rattle.drawing.specs.Table.{wordsOf}
 use Rattle.laws.specs.WordLaws.{pair-words}
 use Rattle.laws.specs.Standing.{WordsStand, Here, Behind}
@@ -43,6 +46,18 @@ module _ {A : Type 0} {N : Layout A} {ws : List ℕ} {at : ℕ} {a : A} (here : 
   first-word {x} {xs} is =
       let stands = same-stands is in
       (omega (arith, stands-long stands), ap (λ n. getD ws n 0) (sym (add-zero at)) ∙ sym (getD-drop at ws 0 0) ∙ ap (λ l. getD l 0 0) (stands .words-are))
+
+-- What is chosen is the first alternative, if its tag is this and it is on, and otherwise what the others choose.
+module _ {B : Type 0} {tagOf : B → ℕ} (fallback x : Alternative B tagOf) (xs : List (Alternative B tagOf)) (c : ℕ) {ws : List ℕ} {at : ℕ} {b : B} where
+  pub here-chosen : (x .on && eqb c (x .tag)) ≡ true → Here (chosen fallback (x ∷ xs) c) ws at b → Here (x .layout) ws at b
+  here-chosen on here =
+      let this = subst (λ t. Here (either t (x .layout) (chosen fallback xs c)) ws at b) on here in
+      here-as this (x .layout) refl (this .good)
+
+  pub here-other : (x .on && eqb c (x .tag)) ≡ false → Here (chosen fallback (x ∷ xs) c) ws at b → Here (chosen fallback xs c) ws at b
+  here-other off here =
+      let this = subst (λ t. Here (either t (x .layout) (chosen fallback xs c)) ws at b) off here in
+      here-as this (chosen fallback xs c) refl (this .good)
 
 -- Of two parts the first stands here, and the other one behind it.
 module _ {A B : Type 0} (L : Layout A) (M : Layout B) {ws : List ℕ} {at : ℕ} {a : A} {b : B} (here : Here (L & M) ws at (a, b)) where

@@ -2,6 +2,7 @@
 use mathlib.Core.Path.{_≡_, refl, sym, ap, subst, _∙_}
 use mathlib.Core.Option.{Option, none, some}
 use Prim.Native.Nat.{ℕ, _+_}
+use native.Mathlib.Nat.{add-zero}
 use native.Mathlib.Omega.{arith}
 use mathlib.Core.List.{List, [], _∷_, _++_, append-assoc}
 use lib.ListN.{length, take, drop, length-append}
@@ -17,14 +18,16 @@ use Rattle.drawing.specs.String.{String, string}
 use Rattle.drawing.specs.Choices.{ifFlag}
 use Rattle.drawing.specs.Paint as P
 use Rattle.drawing.specs.Text as T
-use Rattle.drawing.specs.Object.{text, leaf}
+use Rattle.drawing.specs.Path.{outline}
+use Rattle.drawing.specs.TextPath.{TextPath}
+use Rattle.drawing.specs.Object.{Leaf, path, text, bitmap, textPath, leaf}
 use Rattle.drawing.specs.Table.{wordsOf, startIn}
-use Rattle.drawing.specs.Questions.{span, stringWords, beforeText, alternativeSpan, alternativeOf, CharsAt}
+use Rattle.drawing.specs.Questions.{span, stringWords, wording, beforeStyle, beforeText, alternativeSpan, alternativeOf, CharsAt}
 use Rattle.laws.specs.WordLaws.{pair-words, string-words}
 use Rattle.laws.specs.Standing.{Here}
 use Rattle.laws.specs.StandingLaws.{stands-long, here-as, here-behind, here-first, here-second}
 use Rattle.laws.specs.RowBodies.{RowBody}
-use Rattle.laws.specs.RowBodyLaws.{leaf-here}
+use Rattle.laws.specs.LeafPlaceLaws.{text-here, text-path-here}
 
 -- ---- strings
 
@@ -85,31 +88,63 @@ module _ (l : T.Latex) where
     pub alternative-chars : CharsAt ws (span (at + 1 + length (wordsOf latexFront (latexParts l .0)) + 1) (l .alternative)) (l .alternative)
     alternative-chars = string-chars 0 (here-second latexFront (string 0) latex-here)
 
--- ---- texts
+-- ---- styles
 
-module _ (c bs : List ℕ) (v r : ℕ) (t : T.Text) (d : String) (row : RowBody c bs v r (leaf (text t) d)) where
-  abbrev behindLatex : Layout (P.Paint × String)
-  behindLatex = P.paint v & string 1
+-- A style is a font and, behind it, its LaTeX fields.
+module _ {ws : List ℕ} {at : ℕ} (s : T.TextStyle) (here : Here T.textStyle ws at s) where
+  pub style-here : Here (T.font & ifFlag T.latex) ws at (T.fontOf s, s .latex)
+  style-here = here-as here (T.font & ifFlag T.latex) refl (here .good .1)
 
-  abbrev behindFont : Layout (Option T.Latex × (P.Paint × String))
-  behindFont = ifFlag T.latex & behindLatex
-
-  -- Each part of a text stands behind the one before it.
-  pub text-here : Here (T.font & behindFont) bs (startIn c r) (T.fontOf t, (t .latex, (t .paint, t .text)))
-  text-here = here-as (leaf-here c bs v r (text t) d row) (T.font & behindFont) refl (row .good .0 .1 .1)
-
-  font-behind : Here behindFont bs (startIn c r + length (wordsOf T.font (T.fontOf t))) (t .latex, (t .paint, t .text))
-  font-behind = here-second T.font behindFont text-here
-
-  pub text-chars : CharsAt bs (span (startIn c r + beforeText v t) (t .text)) (t .text)
-  text-chars =
-      let stands = string-chars 1 (here-second (P.paint v) (string 1) (here-second (ifFlag T.latex) behindLatex font-behind)) in
-      subst (λ n. CharsAt bs (span n (t .text)) (t .text)) (omega arith) stands
-
-  by-latex : (o : Option T.Latex) → Here (ifFlag T.latex) bs (startIn c r + length (wordsOf T.font (T.fontOf t))) o → CharsAt bs (alternativeSpan (startIn c r) t o) (alternativeOf o)
+  by-latex : (o : Option T.Latex) → Here (ifFlag T.latex) ws (at + length (wordsOf T.font (T.fontOf s))) o → CharsAt ws (alternativeSpan at s o) (alternativeOf o)
   by-latex none here = record { inside = omega arith; chars-are = refl }
   by-latex (some l) here =
-      subst (λ n. CharsAt bs (span n (l .alternative)) (l .alternative)) (omega (arith, front-length l)) (alternative-chars l here)
+      subst (λ n. CharsAt ws (span n (l .alternative)) (l .alternative)) (omega (arith, front-length l)) (alternative-chars l here)
 
-  pub alternative-of : CharsAt bs (alternativeSpan (startIn c r) t (t .latex)) (alternativeOf (t .latex))
-  alternative-of = by-latex (t .latex) (here-first (ifFlag T.latex) behindLatex font-behind)
+  pub style-alternative : CharsAt ws (alternativeSpan at s (s .latex)) (alternativeOf (s .latex))
+  style-alternative = by-latex (s .latex) (here-second T.font (ifFlag T.latex) style-here)
+
+-- ---- texts, and texts along paths
+
+-- Where a leaf's text stands: its style, and the string of its chars.
+pub record WordingHere (bs : List ℕ) (v start : ℕ) (l : Leaf) (t : T.Text) : Type 0 where
+  pub style : Here T.textStyle bs (start + beforeStyle v l) (t .style)
+  pub chars-at : ℕ
+  pub chars : Here (string 1) bs chars-at (t .text)
+  pub chars-are : chars-at + 1 ≡ start + beforeText v t
+
+module _ (c bs : List ℕ) (v r : ℕ) where
+  text-wording : (t : T.Text) (d : String) → RowBody c bs v r (leaf (text t) d) → WordingHere bs v (startIn c r) (text t) t
+  text-wording t d row =
+      let here = text-here c bs v r t d row in
+      record {
+        style = subst (λ at. Here T.textStyle bs at (t .style)) (sym (add-zero (startIn c r))) (here-first T.textStyle (P.paint v & string 1) here);
+        chars-at = _;
+        chars = here-second (P.paint v) (string 1) (here-second T.textStyle (P.paint v & string 1) here);
+        chars-are = omega arith;
+      }
+
+  text-path-wording : (x : TextPath) (d : String) → RowBody c bs v r (leaf (textPath x) d) → WordingHere bs v (startIn c r) (textPath x) (x .text)
+  text-path-wording x d row =
+      let behind = here-second (P.paint v) (T.textStyle & string 1 & outline v) (text-path-here c bs v r x d row) in
+      record {
+        style = here-first T.textStyle (string 1 & outline v) behind;
+        chars-at = _;
+        chars = here-first (string 1) (outline v) (here-second T.textStyle (string 1 & outline v) behind);
+        chars-are = omega arith;
+      }
+
+  wording-here : (l : Leaf) (t : T.Text) (d : String) → wording l ≡ some t → RowBody c bs v r (leaf l d) → WordingHere bs v (startIn c r) l t
+  wording-here (path p) t d has row = let z : _≡_ {A = ℕ} 0 1 = cc in absurd (omega arith)
+  wording-here (text u) t d has row = let same : u ≡ t = cc in subst (WordingHere bs v (startIn c r) (text u)) same (text-wording u d row)
+  wording-here (bitmap b) t d has row = let z : _≡_ {A = ℕ} 0 1 = cc in absurd (omega arith)
+  wording-here (textPath x) t d has row = let same : x .text ≡ t = cc in subst (WordingHere bs v (startIn c r) (textPath x)) same (text-path-wording x d row)
+
+  -- The places of its chars hold these chars.
+  pub alternative-of : (l : Leaf) (t : T.Text) (d : String) → wording l ≡ some t → RowBody c bs v r (leaf l d)
+      → CharsAt bs (alternativeSpan (startIn c r + beforeStyle v l) (t .style) (t .style .latex)) (alternativeOf (t .style .latex))
+  alternative-of l t d has row = style-alternative (t .style) (wording-here l t d has row .style)
+
+  pub text-chars : (l : Leaf) (t : T.Text) (d : String) → wording l ≡ some t → RowBody c bs v r (leaf l d) → CharsAt bs (span (startIn c r + beforeText v t) (t .text)) (t .text)
+  text-chars l t d has row =
+      let here = wording-here l t d has row in
+      subst (λ n. CharsAt bs (span n (t .text)) (t .text)) (here .chars-are) (string-chars 1 (here .chars))

@@ -10,7 +10,7 @@ use lib.Dec.{eqb, leb}
 use native.Mathlib.Omega.{arith}
 use native.Mathlib.Nat as Nat
 use native.Mathlib.Numerals.{add-one}
-use borrow.Author.Tests.{eq-eqb}
+use borrow.Author.Tests.{eq-eqb, ne-eqb}
 use Rattle.format.specs.Kind.{Allowed}
 use Rattle.format.specs.Spelling.{spellAll}
 use Rattle.format.specs.FixedCodec.{spellFixed}
@@ -18,14 +18,15 @@ use Rattle.drawing.specs.Codecs.{wordFields}
 use Rattle.format.specs.Format.{Each, fields}
 use Rattle.drawing.specs.Fields.{memberCount}
 use Rattle.drawing.specs.String.{String}
-use Rattle.drawing.specs.Object.{Leaf, path, text, bitmap, Object, leaf, group, Objects, none, more, listOf, ofList}
+use Rattle.drawing.specs.Object.{Leaf, Object, leaf, group, Objects, none, more, listOf, ofList}
 use Rattle.drawing.specs.ObjectId.{leafLetter}
-use Rattle.drawing.specs.LeafLayout.{leafBody, objectEnd}
+use Rattle.drawing.specs.LeafLayout.{isLeaf, leafBody, objectEnd}
 use Rattle.drawing.specs.ObjectLayout.{object}
-use Rattle.laws.specs.ObjectGood.{GoodLeaf, good-leaf, good-group, no-group}
+use Rattle.laws.specs.ObjectGood.{GoodLeaf, leaf-on, good-leaf, good-group, no-group}
 use Rattle.drawing.specs.Table as Table
 use Rattle.drawing.specs.Table.{leafKind, leafWords, groupKind, groupOwn, groupWords, rows, rowsAll, bodies, bodiesAll, row, contents, contentsAll}
 use Rattle.drawing.specs.TableDrawing.{Place, Walk, met, onward, provided, body, walkMany, walkGroup, letterOf, walkLeaf, walkKind, walkObject}
+use Rattle.drawing.specs.KindLaws.{leaf-letter, leaf-no-group}
 use Rattle.laws.specs.WalkLaws.{body-met}
 
 -- A place, by its four parts.
@@ -34,22 +35,6 @@ place own C at B = record { row = own; contents = C; at = at; bodies = B }
 
 -- ---- a drawing's table is walked to its drawing
 
--- A leaf's kind tells its letter.
-letter-of : (l : Leaf) → letterOf (leafKind l) ≡ leafLetter l
-letter-of (path x) = refl
-letter-of (text x) = refl
-letter-of (bitmap x) = refl
-
-kind-in-range : (l : Leaf) → (leb 2 (leafKind l) && leb (leafKind l) 4) ≡ true
-kind-in-range (path x) = refl
-kind-in-range (text x) = refl
-kind-in-range (bitmap x) = refl
-
-no-group-kind : (l : Leaf) → eqb (leafKind l) groupKind ≡ false
-no-group-kind (path x) = refl
-no-group-kind (text x) = refl
-no-group-kind (bitmap x) = refl
-
 leaf-met : (l : Leaf) (d : String) (v parent own at : ℕ) (C B : List ℕ) → GoodLeaf v l d
     → walkLeaf v parent (row (leafKind l) parent at (length (leafWords v l d))) (place own C at (leafWords v l d ++ B))
     ≡ met (leaf l d) (place own C (at + length (leafWords v l d)) B)
@@ -57,8 +42,8 @@ leaf-met l d v parent own at C B g =
     let k = leafKind l in
     let r = row k parent at (length (leafWords v l d)) in
     let p = place own C at (leafWords v l d ++ B) in
-    ap (λ t. provided t (onward (body (leafBody v (letterOf k)) k parent r p) (λ (x, e) q. met (leaf x e) q))) (kind-in-range l)
-    ∙ ap (λ c. onward (body (leafBody v c) k parent r p) (λ (x, e) q. met (leaf x e) q)) (letter-of l)
+    ap (λ t. provided t (onward (body (leafBody v (letterOf k)) k parent r p) (λ (x, e) q. met (leaf x e) q))) (ap (isLeaf v) (leaf-letter l) ∙ leaf-on v l d g)
+    ∙ ap (λ c. onward (body (leafBody v c) k parent r p) (λ (x, e) q. met (leaf x e) q)) (leaf-letter l)
     ∙ ap (λ w. onward w (λ (x, e) q. met (leaf x e) q)) (body-met (leafBody v (leafLetter l)) (l, d) g k parent own at C B)
 
 walk-leaf : (l : Leaf) (d : String) (v deep parent own at : ℕ) (C B : List ℕ) → GoodLeaf v l d
@@ -66,7 +51,7 @@ walk-leaf : (l : Leaf) (d : String) (v deep parent own at : ℕ) (C B : List ℕ
     ≡ met (leaf l d) (place (suc own) C (at + length (leafWords v l d)) B)
 walk-leaf l d v zero parent own at C B g = leaf-met l d v parent (suc own) at C B g
 walk-leaf l d v (suc deep) parent own at C B g =
-    ap (λ t. walkKind t v (λ r. walkObject v deep own r) parent (row (leafKind l) parent at (length (leafWords v l d))) (place (suc own) C at (leafWords v l d ++ B))) (no-group-kind l)
+    ap (λ t. walkKind t v (λ r. walkObject v deep own r) parent (row (leafKind l) parent at (length (leafWords v l d))) (place (suc own) C at (leafWords v l d ++ B))) (ne-eqb (leafKind l) groupKind (leaf-no-group l))
     ∙ leaf-met l d v parent (suc own) at C B g
 
 -- The count in a group's body, found by where its row says that the body begins.

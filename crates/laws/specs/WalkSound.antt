@@ -16,7 +16,7 @@ use Rattle.format.specs.FormatLaws.{each-length}
 use Rattle.drawing.specs.Fields.{memberCount}
 use Rattle.drawing.specs.FieldLaws.{and-both}
 use Rattle.drawing.specs.String.{String}
-use Rattle.drawing.specs.Object.{Leaf, path, text, bitmap, Object, leaf, group, Objects, listOf, ofList}
+use Rattle.drawing.specs.Object.{Leaf, Object, leaf, group, Objects, listOf, ofList}
 use Rattle.drawing.specs.ObjectId.{leafLetter}
 use Rattle.drawing.specs.LeafLayout.{pathCase, otherCases, isLeaf, leafBody}
 use Rattle.drawing.specs.ObjectLayout.{object, groupBody}
@@ -26,6 +26,7 @@ use Rattle.laws.specs.ObjectGood.{leaf-good, group-good}
 use Rattle.drawing.specs.Table as Table
 use Rattle.drawing.specs.Table.{wordsOf, leafKind, groupKind, groupOwn, groupWords, rows, rowsAll, bodies, bodiesAll, row, kindIn, startIn, contents, contentsAll}
 use Rattle.drawing.specs.TableDrawing.{Place, Walk, met, onward, provided, nextRow, body, walkMany, walkGroup, letterOf, walkLeaf, walkKind, walkObject}
+use Rattle.drawing.specs.KindLaws.{kindByLetter, leaf-kind, letter-kind}
 use Rattle.laws.specs.WalkLaws.{Holding, holding-onward, holding-provided, Over, over-both, over-below, RowMet, next-row-holds, BodyMet, body-holds, leaf-over, group-over}
 
 -- ---- what is walked over is a good drawing's table
@@ -106,34 +107,11 @@ group-holds v deep parent each p q row h e b =
 
 -- ---- leaves
 
--- A kind in range and its letter tell one another.
-pub kind-letter : (k : ℕ) → 2 ≤ k → k ≤ 4 → (v : ℕ) → isLeaf v (letterOf k) ≡ true
-kind-letter zero h g v = absurd (omega arith)
-kind-letter (suc zero) h g v = absurd (omega arith)
-kind-letter (suc (suc zero)) h g v = refl
-kind-letter (suc (suc (suc zero))) h g v = refl
-kind-letter (suc (suc (suc (suc zero)))) h g v = refl
-kind-letter (suc (suc (suc (suc (suc n))))) h g v = absurd (omega arith)
-
-letter-kind : (k : ℕ) → 2 ≤ k → k ≤ 4 → (l : Leaf) → leafLetter l ≡ letterOf k → k ≡ leafKind l
-letter-kind zero h g l e = absurd (omega arith)
-letter-kind (suc zero) h g l e = absurd (omega arith)
-letter-kind (suc (suc zero)) h g (path x) e = refl
-letter-kind (suc (suc zero)) h g (text x) e = absurd (omega arith)
-letter-kind (suc (suc zero)) h g (bitmap x) e = absurd (omega arith)
-letter-kind (suc (suc (suc zero))) h g (path x) e = absurd (omega arith)
-letter-kind (suc (suc (suc zero))) h g (text x) e = refl
-letter-kind (suc (suc (suc zero))) h g (bitmap x) e = absurd (omega arith)
-letter-kind (suc (suc (suc (suc zero)))) h g (path x) e = absurd (omega arith)
-letter-kind (suc (suc (suc (suc zero)))) h g (text x) e = absurd (omega arith)
-letter-kind (suc (suc (suc (suc zero)))) h g (bitmap x) e = refl
-letter-kind (suc (suc (suc (suc (suc n))))) h g l e = absurd (omega arith)
-
-leaf-of : (v deep parent k : ℕ) (words : List ℕ) (p q r : Place) (t : Leaf × String) → 2 ≤ k → k ≤ 4 → RowMet p words q
+leaf-of : (v deep parent k : ℕ) (words : List ℕ) (p q r : Place) (t : Leaf × String) → isLeaf v (letterOf k) ≡ true → RowMet p words q
     → BodyMet (leafBody v (letterOf k)) k parent words q t r → ObjectMet v deep parent p (leaf (t .0) (t .1)) r
-leaf-of v deep parent k words p q r t low high h w =
-    let tells : leafLetter (t .0) ≡ letterOf k = chosen-tells (pathCase v) (otherCases v) (letterOf k) (t .0) (kind-letter k low high v) (w .good .0) in
-    let kind-is : k ≡ leafKind (t .0) = letter-kind k low high (t .0) tells in
+leaf-of v deep parent k words p q r t on h w =
+    let tells : leafLetter (t .0) ≡ letterOf k = chosen-tells (pathCase v) (otherCases v) (letterOf k) (t .0) on (w .good .0) in
+    let kind-is : k ≡ leafKind (t .0) = sym (letter-kind v k on) ∙ ap kindByLetter (sym tells) ∙ leaf-kind (t .0) in
     record {
       good = leaf-good v deep (t .0) (t .1) (subst (λ c. leafBody v c .Good t) (sym tells) (w .good));
       over =
@@ -145,13 +123,12 @@ leaf-holds : (v deep parent : ℕ) (p q : Place) (words : List ℕ) → RowMet p
     → Holding (ObjectMet v deep parent p) (walkLeaf v parent words q)
 leaf-holds v deep parent p q words h b =
     let k = kindIn words 0 in
-    holding-provided (ObjectMet v deep parent p) (leb 2 k && leb k 4)
+    holding-provided (ObjectMet v deep parent p) (isLeaf v (letterOf k))
     (onward (body (leafBody v (letterOf k)) k parent words q) (λ (l, d) r. met (leaf l d) r))
-    (λ t.
-    let range = and-both (leb 2 k) (leb k 4) t in
+    (λ on.
     holding-onward (BodyMet (leafBody v (letterOf k)) k parent words q) (ObjectMet v deep parent p) (body (leafBody v (letterOf k)) k parent words q) (λ (l, d) r. met (leaf l d) r)
     (body-holds (leafBody v (letterOf k)) k parent words q b)
-    (λ x r w. leaf-of v deep parent k words p q r x (leb-true 2 k (range .0)) (leb-true k 4 (range .1)) h w))
+    (λ x r w. leaf-of v deep parent k words p q r x on h w))
 
 pub row-below : (p q : Place) (row : List ℕ) → RowMet p row q → Below (2 ^ 32) (p .bodies) → Below (2 ^ 32) (q .bodies)
 row-below p q row h b = rw (h .bodies) at b

@@ -74,6 +74,7 @@ fn kind_letter(kind: u32) -> u8 {
         1 => b'G',
         2 => b'P',
         3 => b'T',
-        _ => b'I',
+        4 => b'I',
+        _ => b'X',
     }
 }

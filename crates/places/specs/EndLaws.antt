@@ -8,11 +8,12 @@ use Rattle.format.specs.Layout.{field, _&_}
 use Rattle.format.specs.Alternative.{chosen}
 use Rattle.drawing.specs.Fields.{flowFlag, memberCount}
 use Rattle.drawing.specs.String.{String, string}
-use Rattle.drawing.specs.Object.{Leaf, path, text, bitmap, Object, leaf, group, Objects, listOf}
+use Rattle.drawing.specs.Object.{Object, leaf, group, Objects, listOf}
 use Rattle.drawing.specs.ObjectId.{leafLetter}
 use Rattle.drawing.specs.LeafLayout.{pathCase, otherCases, objectEnd}
-use Rattle.drawing.specs.Table.{wordsOf, leafKind, groupOwn, kindIn, startIn}
+use Rattle.drawing.specs.Table.{wordsOf, groupOwn, kindIn, startIn}
 use Rattle.drawing.specs.TableDrawing.{letterOf}
+use Rattle.drawing.specs.KindLaws.{leaf-letter, leaf-no-group}
 use Rattle.drawing.specs.Order.{descriptionOf}
 use Rattle.laws.specs.RowBodies.{ownWords, RowBody}
 use Rattle.laws.specs.RowBodyLaws.{body-here, leaf-here}
@@ -20,16 +21,6 @@ use Rattle.laws.specs.WordLaws.{pair-words, late-end}
 use Rattle.laws.specs.Standing.{Here, Behind}
 use Rattle.laws.specs.StandingLaws.{here-as, here-behind, here-first, here-next, here-later, next-ends}
 use Rattle.places.specs.Rows.{EndsAt, Describes}
-
-letter-of-leaf : (l : Leaf) → letterOf (leafKind l) ≡ leafLetter l
-letter-of-leaf (path x) = refl
-letter-of-leaf (text x) = refl
-letter-of-leaf (bitmap x) = refl
-
-leaf-no-group : (l : Leaf) → leafKind l ≡ 1 → ⊥
-leaf-no-group (path x) e = omega arith
-leaf-no-group (text x) e = omega arith
-leaf-no-group (bitmap x) e = omega arith
 
 -- An object's own words before its end.
 abbrev pub frontWords : ℕ → Object → List ℕ
@@ -65,7 +56,7 @@ module _ (c bs : List ℕ) (v r : ℕ) where
     pub leaf-end : (o : Object) → RowBody c bs v r o → (kind ≡ 1 → ⊥) → {letter : ℕ} → letter ≡ letterOf kind → Behind (chosen (pathCase v) (otherCases v) letter) bs start q → EndsAt c bs v r o q
     leaf-end (group os d) row other letter-is behind = absurd (other (kind-is ∙ row .kind-is))
     leaf-end (leaf l d) row other {letter} letter-is behind =
-        let same : letter ≡ leafLetter l = letter-is ∙ ap letterOf (kind-is ∙ row .kind-is) ∙ letter-of-leaf l in
+        let same : letter ≡ leafLetter l = letter-is ∙ ap letterOf (kind-is ∙ row .kind-is) ∙ leaf-letter l in
         let is = subst₂ (λ x at. Behind (chosen (pathCase v) (otherCases v) x) bs at q) same start-is behind in
         subst (EndsAt c bs v r (leaf l d)) (sym (is l (leaf-here c bs v r l d row))) (ends (leaf l d) row)
 

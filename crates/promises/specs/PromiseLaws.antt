@@ -1,7 +1,7 @@
 -- Each promise follows from its call's equation, by the laws of the drawing layer. `Below` is what a slice of bytes or of words says of its elements.
 use mathlib.Core.Path.{_≡_, refl, sym, ap, ap₂, subst, _∙_}
 use mathlib.Core.Logic.{_⊎_, _↔_, inl, inr}
-use mathlib.Core.Option.{Option, none, some}
+use mathlib.Core.Option.{Option, none, some, Option·map}
 use Prim.Native.Nat.{ℕ, _^_}
 use native.Mathlib.Omega.{arith}
 use mathlib.Core.List.{List, [], List·Memᴰ}
@@ -17,8 +17,7 @@ use Rattle.drawing.specs.Fields.{unless}
 use Rattle.drawing.specs.String.{String}
 use Rattle.drawing.specs.Paint as P
 use Rattle.drawing.specs.Text.{Text}
-use Rattle.drawing.specs.Object.{Object, path, text, bitmap, leaf, group}
-use Rattle.drawing.specs.ObjectId.{textOf}
+use Rattle.drawing.specs.Object.{Object, leaf, group}
 use Rattle.drawing.specs.Drawing.{Drawing, outer, IsFile}
 use Rattle.drawing.specs.Reading.{Reading, drawing, refusal, drawingOf}
 use Rattle.drawing.specs.Refusal.{Refused}
@@ -142,23 +141,20 @@ paints {contents} {bodies} {row} {which} below is =
     }
 
 -- What the public answer of a text stands for.
-given-text : (start v : ℕ) (x : Q.Found Text) → Q.textGiven (textValue (Q.textPlaces start v x)) ≡ Q.textPlaces start v x
+given-text : (start v : ℕ) (x : Q.Found (ℕ × Text)) → Q.textGiven (textValue (Q.textPlaces start v x)) ≡ Q.textPlaces start v x
 given-text start v (Q.refusal n) = refl
 given-text start v (Q.part t) = refl
 
 module _ (c bs : List ℕ) (row v : ℕ) (t : Text) where
   -- The places of a text's chars.
   abbrev Placed : TextAnswer → Type 0
-  Placed r = CharsAt bs (r .alternative) (Q.alternativeOf (t .latex)) × CharsAt bs (r .text) (t .text)
+  Placed r = CharsAt bs (r .alternative) (Q.alternativeOf (t .style .latex)) × CharsAt bs (r .text) (t .text)
 
-  by-object : (o : Object) → RowBody c bs v row o → Q.leafPart textOf o ≡ some t → Placed (textValue (Q.textPlaces (startIn c row) v (Q.part t)))
-  by-object (leaf (path p) d) body has = let z : _≡_ {A = ℕ} 0 1 = cc in absurd (omega arith)
-  by-object (leaf (bitmap b) d) body has = let z : _≡_ {A = ℕ} 0 1 = cc in absurd (omega arith)
+  by-object : (o : Object) → RowBody c bs v row o → Q.leafPart Q.wording o ≡ some t → Placed (textValue (Q.textPlaces (startIn c row) v (Q.orRefusal 7 (Q.textPart v o))))
   by-object (group os d) body has = let z : _≡_ {A = ℕ} 0 1 = cc in absurd (omega arith)
-  by-object (leaf (text u) d) body has =
-      let same : u ≡ t = cc in
-      let here : RowBody c bs v row (leaf (text t) d) = subst (λ x. RowBody c bs v row (leaf (text x) d)) same body in
-      (alternative-of c bs v row t d here, text-chars c bs v row t d here)
+  by-object (leaf l d) body has =
+      subst (λ x. Placed (textValue (Q.textPlaces (startIn c row) v (Q.orRefusal 7 (Option·map (λ u. (Q.beforeStyle v l, u)) x))))) (sym has)
+      (alternative-of c bs v row l t d has body, text-chars c bs v row l t d has body)
 
 pub texts : {contents bodies : List ℕ} {row : ℕ} {r : TextAnswer} → Below (2 ^ 32) bodies → r ≡ textAnswer contents bodies row → Texts contents bodies row r
 texts {contents} {bodies} {row} {r} below is =
@@ -168,16 +164,15 @@ texts {contents} {bodies} {row} {r} below is =
           by-table (record {
             table = λ d t.
                 ap Q.textGiven (computed .table d t)
-                ∙ given-text (startIn contents row) (d .version) (Q.partOf (Q.leafPart textOf) row d)
-                ∙ ap (λ c. Q.textPlaces (startIn c row) (d .version) (Q.partOf (Q.leafPart textOf) row d)) (t .contents-are);
+                ∙ given-text (startIn contents row) (d .version) (Q.partOf (Q.textPart (d .version)) row d)
+                ∙ ap (λ c. Q.textPlaces (startIn c row) (d .version) (Q.partOf (Q.textPart (d .version)) row d)) (t .contents-are);
             no-table = λ none-has. ap Q.textGiven (computed .no-table none-has);
             one-or-other = computed .one-or-other;
           });
       places = λ d o t table object-is has.
-          let answer-is : r ≡ textValue (Q.textPlaces (startIn contents row) (d .version) (Q.part t)) =
+          let answer-is : r ≡ textValue (Q.textPlaces (startIn contents row) (d .version) (Q.orRefusal 7 (Q.textPart (d .version) o))) =
           computed .table d table
-          ∙ ap (λ x. textValue (Q.textPlaces (startIn contents row) (d .version) (Q.partAt (Q.leafPart textOf) x))) object-is
-          ∙ ap (λ x. textValue (Q.textPlaces (startIn contents row) (d .version) (Q.orRefusal 7 x))) has in
+          ∙ ap (λ x. textValue (Q.textPlaces (startIn contents row) (d .version) (Q.partAt (Q.textPart (d .version)) x))) object-is in
           subst (Placed contents bodies row (d .version) t) (sym answer-is) (by-object contents bodies row (d .version) t o (object-body contents bodies d table row o object-is) has);
       says = is;
     }

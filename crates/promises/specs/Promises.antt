@@ -18,13 +18,12 @@ use Rattle.drawing.specs.declared.TextAnswer.{TextAnswer}
 use Rattle.drawing.specs.String.{String}
 use Rattle.drawing.specs.Text.{Text}
 use Rattle.drawing.specs.Object.{Object}
-use Rattle.drawing.specs.ObjectId.{textOf}
 use Rattle.drawing.specs.Drawing.{Drawing, IsFile}
 use Rattle.drawing.specs.Refusal.{Refused}
 use Rattle.drawing.specs.Table.{IsTable}
 use Rattle.drawing.specs.Order.{objectsOf, descriptionOf, entries, groupsAround, ParentChain}
 use Rattle.drawing.specs.Answers.{ReadResult, fileRead, unread, tableRefused, tableChecked, Output, nothingStored, tableWritten, tableListed}
-use Rattle.drawing.specs.Questions.{refusal, partOf, paintPart, paintAsked, paintGiven, paintOf, textAsked, noText, textGiven, leafPart, alternativeOf, CharsAt}
+use Rattle.drawing.specs.Questions.{refusal, partOf, paintPart, paintAsked, paintGiven, paintOf, textAsked, noText, textGiven, leafPart, wording, alternativeOf, CharsAt}
 use Rattle.drawing.specs.Computed.{readResult, checkAnswer, writeOutput, listOutput, paintAnswer, textAnswer}
 
 -- ---- read
@@ -108,6 +107,6 @@ pub record Paints (contents bodies : List ℕ) (row : ℕ) (which : Which) (r : 
 pub record Texts (contents bodies : List ℕ) (row : ℕ) (r : TextAnswer) : Type 0 where
   pub decides : OfTable contents bodies (textAsked row) (noText 16) (textGiven r)
   -- the places lie within the bodies and hold the chars of the row's text
-  pub places : (d : Drawing) (o : Object) (t : Text) → IsTable contents bodies d → getElem? (objectsOf d) row ≡ some o → leafPart textOf o ≡ some t
-      → CharsAt bodies (r .alternative) (alternativeOf (t .latex)) × CharsAt bodies (r .text) (t .text)
+  pub places : (d : Drawing) (o : Object) (t : Text) → IsTable contents bodies d → getElem? (objectsOf d) row ≡ some o → leafPart wording o ≡ some t
+      → CharsAt bodies (r .alternative) (alternativeOf (t .style .latex)) × CharsAt bodies (r .text) (t .text)
   pub says : r ≡ textAnswer contents bodies row

@@ -34,18 +34,18 @@ pub record Asked (contents bodies : List ℕ) (row : ℕ) : Type 0 where
   pub has : HasRow contents bodies (getD bodies 0 0) row
 
 -- A question about a part, answered by what is made of the part in the drawing.
-module _ {A R : Type 0} (has : Object → Option A) (make : Drawing → Found A → R) (bad : R) where
+module _ {A R : Type 0} (has : Drawing → Object → Option A) (make : Drawing → Found A → R) (bad : R) where
   abbrev pub answered : (contents bodies : List ℕ) → ℕ → R
-  answered contents bodies row = fromTable (λ d. make d (partOf has row d)) bad (drawingOfTable contents bodies)
+  answered contents bodies row = fromTable (λ d. make d (partOf (has d) row d)) bad (drawingOfTable contents bodies)
 
-  pub asked-part : {c bs : List ℕ} {row : ℕ} → (asked : Asked c bs row) → answered c bs row ≡ make (asked .d) (orRefusal 7 (has (asked .object)))
-  asked-part {row = row} asked = ap (fromTable (λ d. make d (partOf has row d)) bad) (asked .is) ∙ ap (λ x. make (asked .d) (partAt has x)) (asked .object-is)
+  pub asked-part : {c bs : List ℕ} {row : ℕ} → (asked : Asked c bs row) → answered c bs row ≡ make (asked .d) (orRefusal 7 (has (asked .d) (asked .object)))
+  asked-part {row = row} asked = ap (fromTable (λ d. make d (partOf (has d) row d)) bad) (asked .is) ∙ ap (λ x. make (asked .d) (partAt (has (asked .d)) x)) (asked .object-is)
 
   pub no-table : {c bs : List ℕ} {a : Answer} → Checks c bs a → (row : ℕ) → (a .number ≡ 0 → ⊥) → answered c bs row ≡ bad
   no-table {c} {bs} checks row gone = by (drawingOfTable c bs) refl
     where
       by : (o : Option Drawing) → drawingOfTable c bs ≡ o → answered c bs row ≡ bad
-      by none is = ap (fromTable (λ d. make d (partOf has row d)) bad) is
+      by none is = ap (fromTable (λ d. make d (partOf (has d) row d)) bad) is
       by (some d) is = absurd (gone (ap (λ x. x .number) (checks .says ∙ ap checkFrom is)))
 
   -- Whatever the drawing is, this is made of the refusal of a row that it does not have.
@@ -53,7 +53,7 @@ module _ {A R : Type 0} (has : Object → Option A) (make : Drawing → Found A 
   no-such-row checks row good past made =
       let at = checked-drawing checks good in
       let d = at .0 in
-      made d ∙ sym (ap (fromTable (λ d. make d (partOf has row d)) bad) (at .1 .0) ∙ ap (λ x. make d (partAt has x)) (no-row d row (omega (arith, at .1 .1, past))))
+      made d ∙ sym (ap (fromTable (λ d. make d (partOf (has d) row d)) bad) (at .1 .0) ∙ ap (λ x. make d (partAt (has d) x)) (no-row d row (omega (arith, at .1 .1, past))))
 
 module _ {c bs : List ℕ} {a : Answer} (checks : Checks c bs a) (row : ℕ) where
   module _ (good : a .number ≡ 0) where

@@ -3,3 +3,4 @@ pub mod paint;
 pub mod paint_words;
 pub mod shown;
 pub mod text;
+pub mod text_places;

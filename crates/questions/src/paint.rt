@@ -1,5 +1,7 @@
 // The paint question.
 use crate::paint_words::paint_at;
+use crate::text_places::has_text;
+use crate::text_places::text_places;
 use drawing::PaintAnswer;
 use drawing::Which;
 use drawing::numbers::ACCEPTED;
@@ -7,7 +9,6 @@ use drawing::numbers::NO_PART;
 use drawing::numbers::NO_ROW;
 use drawing::numbers::NO_TABLE;
 use drawing::row::PATH_KIND;
-use drawing::row::TEXT_KIND;
 use places::Part;
 use places::behind::behind;
 use rows::look::kind_in;
@@ -17,7 +18,7 @@ ghost use Rattle.promises.specs.Promises.{Paints};
 ghost use Rattle.places.specs.Rows.{HasRow};
 ghost use Rattle.questions.specs.PaintQuestion.{PaintOf};
 
-// A path begins with its line paint, and its fill paint stands behind that; a text's paint stands behind its font and its LaTeX fields.
+// A path begins with its line paint, and its fill paint stands behind that.
 fn paint_of(contents: &[u32], words: &[u32], row: usize, version: u32, which: Which) -> PaintAnswer
     requires { ⌜ HasRow (now contents) (now words) version row ⌝ }
     ensures { λ r. ⌜ PaintOf (now (contents .entry)) (now (words .entry)) version row which r ⌝ }
@@ -39,12 +40,11 @@ fn paint_of(contents: &[u32], words: &[u32], row: usize, version: u32, which: Wh
             return paint_at(&*words, fill, version);
         }
         Which::Text => {
-            if kind != TEXT_KIND {
-                return PaintAnswer::Refused(NO_PART);
+            if has_text(kind) {
+                let places = text_places(&*contents, &*words, row, version);
+                return paint_at(&*words, places.paint, version);
             }
-            let latex = behind(&*words, start, version, Part::Font);
-            let paint = behind(&*words, latex, version, Part::Latex);
-            return paint_at(&*words, paint, version);
+            return PaintAnswer::Refused(NO_PART);
         }
     }
 }

@@ -1,15 +1,15 @@
 // The text question.
+use crate::text_places::has_text;
+use crate::text_places::text_places;
 use drawing::Span;
 use drawing::TextAnswer;
 use drawing::numbers::ACCEPTED;
 use drawing::numbers::NO_PART;
 use drawing::numbers::NO_ROW;
 use drawing::numbers::NO_TABLE;
-use drawing::row::TEXT_KIND;
 use places::Part;
 use places::behind::behind;
 use rows::look::kind_in;
-use rows::look::start_in;
 use table::answers::check;
 ghost use mathlib.Core.Path.{_≡_};
 ghost use Prim.Native.Nat.{_<_, _≤_};
@@ -66,24 +66,19 @@ fn alternative_chars(words: &[u32], at: usize, version: u32) -> Span
     }
 }
 
-// The LaTeX fields stand behind the font, and the chars behind these and the paint.
 fn text_of(contents: &[u32], words: &[u32], row: usize, version: u32) -> TextAnswer
     requires { ⌜ HasRow (now contents) (now words) version row ⌝ }
     ensures { λ r. ⌜ TextOf (now (contents .entry)) (now (words .entry)) version row r ⌝ }
 {
-    let kind = kind_in(&*contents, row);
-    let start = start_in(&*contents, row);
-    if kind != TEXT_KIND {
-        return refused(NO_PART);
+    if has_text(kind_in(&*contents, row)) {
+        let places = text_places(&*contents, &*words, row, version);
+        return TextAnswer {
+            number: ACCEPTED,
+            alternative: alternative_chars(&*words, places.latex, version),
+            text: chars_at(&*words, places.chars),
+        };
     }
-    let latex = behind(&*words, start, version, Part::Font);
-    let paint = behind(&*words, latex, version, Part::Latex);
-    let chars = behind(&*words, paint, version, Part::Paint);
-    TextAnswer {
-        number: ACCEPTED,
-        alternative: alternative_chars(&*words, latex, version),
-        text: chars_at(&*words, chars),
-    }
+    refused(NO_PART)
 }
 
 pub fn text(contents: &[u32], words: &[u32], row: u32) -> TextAnswer

@@ -32,6 +32,7 @@ use Rattle.drawing.specs.LineStyle as L
 use Rattle.drawing.specs.Path as Path
 use Rattle.drawing.specs.Text as Text
 use Rattle.drawing.specs.Bitmap as Bitmap
+use Rattle.drawing.specs.TextPath as TextPath
 use Rattle.drawing.specs.LeafLayout as Leaf
 use Rattle.drawing.specs.ObjectLayout as Object
 use Rattle.drawing.specs.Settings as Settings
@@ -153,16 +154,24 @@ segment own before =
     let first = start own before in
     (λ c. unless-mild (eqb c (code "L") || (eqb c (code "M") || eqb c (code "B"))) 7 (omega arith), λ c. ((first, λ s. point), ((first, λ s. point), (first, λ s. (point, λ p. (point, λ q. point))))))
 
-path : (v : ℕ) → AllMild (Path.path v .format)
-path v =
-    (paint v, λ a. (paint v, λ b. (lineStyle v, λ d. (char (F.oneOfChars (code "O" ∷ code "C" ∷ [])), λ e. (count 1, λ n. ((point, tt), λ p. segment (ltb v 3)))))))
+outline : (v : ℕ) → AllMild (Path.outline v .format)
+outline v = (char (F.oneOfChars (code "O" ∷ code "C" ∷ [])), λ e. (count 1, λ n. ((point, tt), λ p. segment (ltb v 3))))
 
-text : (v : ℕ) → AllMild (Text.text v .format)
-text v =
+path : (v : ℕ) → AllMild (Path.path v .format)
+path v = (paint v, λ a. (paint v, λ b. (lineStyle v, λ d. outline v)))
+
+textStyle : AllMild (Text.textStyle .format)
+textStyle =
     let latex : AllMild (Text.latex .format) = (string 0, λ a. (string 0, λ b. (string 0, λ d. (string 0, λ e. (byte 0 2, λ f. (byte 0 3, λ g. string 0)))))) in (
       (string 0, λ a. (byte 0 1, λ b. (byte 0 1, λ d. (fontSize, λ e. λ t. any)))),
-      λ f. ((any, λ g. (latex, tt)), λ l. (paint v, λ p. string 1)),
+      λ f. (any, λ g. (latex, tt)),
     )
+
+text : (v : ℕ) → AllMild (Text.text v .format)
+text v = (textStyle, λ s. (paint v, λ p. string 1))
+
+textPath : (v : ℕ) → AllMild (TextPath.textPath v .format)
+textPath v = (paint v, λ p. (textStyle, λ s. (string 1, λ t. outline v)))
 
 bitmap : AllMild (Bitmap.bitmap .format)
 bitmap = (string 1, λ a. ((any, λ f. ((string 0, λ b. string 0), tt)), λ l. λ t. any))
@@ -173,7 +182,7 @@ objectEnd : (v : ℕ) → AllMild (Leaf.objectEnd v .format)
 objectEnd v = (flowFlag, λ f. (string 0, tt))
 
 leafBody : (v letter : ℕ) → AllMild (Leaf.leafBody v letter .format)
-leafBody v letter = ((text v, (bitmap, path v)), λ l. objectEnd v)
+leafBody v letter = ((text v, (bitmap, (textPath v, path v))), λ l. objectEnd v)
 
 object : (v deep : ℕ) → AllMild (Object.object v deep .format)
 object v zero = (objectId (Leaf.isLeaf v) false, λ c. leafBody v c)

@@ -18,6 +18,7 @@ use Rattle.drawing.specs.Fields.{objectFault, objectId}
 use Rattle.drawing.specs.String.{String}
 use Rattle.drawing.specs.Object.{Leaf, leaf}
 use Rattle.drawing.specs.ObjectId.{leafLetter}
+use Rattle.drawing.specs.ObjectLaws.{group-no-leaf}
 use Rattle.drawing.specs.LeafLayout.{pathCase, otherCases, isLeaf, leafBody}
 use Rattle.drawing.specs.Table.{wordsOf, leafKind, leafWords, row as rowWords}
 use Rattle.laws.specs.ParseLaws.{idKind, object-refused, object-leaf, object-group}
@@ -25,7 +26,7 @@ use Rattle.ways.specs.declared.Pass.{Pass}
 use Rattle.ways.specs.Passes as Passes
 use Rattle.ways.specs.Passes.{refusalOf}
 use Rattle.ways.specs.Written.{same-written}
-use Rattle.rows.specs.Stores.{kindByLetter, leaf-kind}
+use Rattle.drawing.specs.KindLaws.{kindByLetter, leaf-kind}
 use Rattle.rows.specs.declared.walked.Walked.{Walked}
 use Rattle.from_file.specs.Way.{way}
 use Rattle.reader.specs.Descents.{Stands, Part, Stopped, Comes, Descends, Rowed, objectAt, groupAt, DescendsObject, DescendsGroup}
@@ -33,8 +34,8 @@ use Rattle.reader.specs.FieldsAt.{numberAt, faultAt, cut-here, fault-her
 use Rattle.reader.specs.BodyLaws.{Body, body-met, body-stopped, descends-met, descends-stopped}
 
 -- Where no group may stand, the id of a group is at fault.
-abbrev pub leafFault : (file : List ℕ) (at : ℕ) → ℕ
-leafFault file at = faultAt (objectId (isLeaf 0) false) file at
+abbrev pub leafFault : ℕ → (file : List ℕ) (at : ℕ) → ℕ
+leafFault v file at = faultAt (objectId (isLeaf v) false) file at
 
 -- The id of a group stands there, or not.
 pub record GroupHere (file : List ℕ) (at : ℕ) (r : Bool) : Type 0 where
@@ -119,28 +120,28 @@ module _ (file : List ℕ) (below : Below 256 file) (v at : ℕ) where
   -- ---- a leaf
 
   module _ (parent row to : ℕ) (cs bs : List ℕ) (stands : Stands (length file) at row to) where
-    pub leaf-refused : {n : ℕ} {p : Pass} {r : Walked} → n ≡ leafFault file at → 0 < n → p ≡ refusalOf way n at → r ≡ record { row = row; at = p .at; to = p .to } → DescendsObject file v 0 parent at row to cs bs cs bs r
+    pub leaf-refused : {n : ℕ} {p : Pass} {r : Walked} → n ≡ leafFault v file at → 0 < n → p ≡ refusalOf way n at → r ≡ record { row = row; at = p .at; to = p .to } → DescendsObject file v 0 parent at row to cs bs cs bs r
     leaf-refused {n} is some refusal-is r-is = descends-stopped (object-refused v 0 (drop at file) n (drop at file) (by (leb (at + 2) (length file)) refl)) (stopped-here (stands .inside) refusal-is r-is)
       where
         by : (t : Bool) → leb (at + 2) (length file) ≡ t → bytes .read (idKind v 0) (drop at file) ≡ refused n (drop at file)
-        by true e = id-bad false (leb-true (at + 2) (length file) e) n (sym (is ∙ ap (λ t. cond t (objectId (isLeaf 0) false .fault (numberAt 2 file at)) 2) e)) some
+        by true e = id-bad false (leb-true (at + 2) (length file) e) n (sym (is ∙ ap (λ t. cond t (objectId (isLeaf v) false .fault (numberAt 2 file at)) 2) e)) some
         by false e =
-            let cut : n ≡ 2 = is ∙ ap (λ t. cond t (objectId (isLeaf 0) false .fault (numberAt 2 file at)) 2) e in
+            let cut : n ≡ 2 = is ∙ ap (λ t. cond t (objectId (isLeaf v) false .fault (numberAt 2 file at)) 2) e in
             id-cut false (stands .inside) (leb-false (at + 2) (length file) e) ∙ ap (λ k. refused k (drop at file)) (sym cut)
 
-    module _ (fine : leafFault file at ≡ 0) where
+    module _ (fine : leafFault v file at ≡ 0) where
       pub leaf-inside : at + 2 ≤ length file
       leaf-inside = by (leb (at + 2) (length file)) refl
         where
           by : (t : Bool) → leb (at + 2) (length file) ≡ t → at + 2 ≤ length file
           by true e = leb-true (at + 2) (length file) e
-          by false e = let two : _≡_ {A = ℕ} 2 0 = ap (λ t. cond t (objectId (isLeaf 0) false .fault (numberAt 2 file at)) 2) (sym e) ∙ fine in absurd (omega arith)
+          by false e = let two : _≡_ {A = ℕ} 2 0 = ap (λ t. cond t (objectId (isLeaf v) false .fault (numberAt 2 file at)) 2) (sym e) ∙ fine in absurd (omega arith)
 
       pub leaf-stands : Stands (length file) (at + 2) row to
       leaf-stands = behind-id stands leaf-inside
 
       faultless : objectId (isLeaf v) false .fault (numberAt 2 file at) ≡ 0
-      faultless = ap (λ t. cond t (objectId (isLeaf 0) false .fault (numberAt 2 file at)) 2) (sym (le-leb (at + 2) (length file) leaf-inside)) ∙ fine
+      faultless = ap (λ t. cond t (objectId (isLeaf v) false .fault (numberAt 2 file at)) 2) (sym (le-leb (at + 2) (length file) leaf-inside)) ∙ fine
 
       leafy : isLeaf v (numberAt 2 file at) ≡ true
       leafy = by (isLeaf v (numberAt 2 file at)) (eqb (numberAt 2 file at) (code "G")) refl faultless
@@ -201,7 +202,7 @@ module _ (file : List ℕ) (below : Below 256 file) (v at : ℕ) where
     object-as-group zero some here descends = absurd (omega arith)
     object-as-group (suc deep) some (inside, is) descends =
         let less : suc deep - 1 ≡ deep = omega arith in
-        let fine : objectId (isLeaf v) true .fault (numberAt 2 file at) ≡ 0 = ap (λ c. objectId (isLeaf v) true .fault c) is in
+        let fine : objectId (isLeaf v) true .fault (numberAt 2 file at) ≡ 0 = ap (λ c. objectId (isLeaf v) true .fault c) is ∙ ap (λ t. objectFault t true true) (group-no-leaf v) in
         descends-before (omega arith)
         (object-group v deep (drop at file) (drop (at + 2) file) (id-good true inside fine ∙ ap (λ c. found c (drop (at + 2) file)) is) ∙ ap (λ n. groupAt file v n (at + 2)) (sym less))
         descends

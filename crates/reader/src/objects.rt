@@ -23,7 +23,7 @@ ghost use Rattle.format.specs.Digits.{digits};
 ghost use Rattle.format.specs.Pass as P;
 ghost use Rattle.drawing.specs.LeafLayout.{leafBody, objectEnd};
 ghost use Rattle.drawing.specs.Table.{groupKind};
-ghost use Rattle.rows.specs.Stores.{kindByLetter};
+ghost use Rattle.drawing.specs.KindLaws.{kindByLetter};
 ghost use Rattle.reader.specs.Descents.{Stands, Rowed, DescendsObject, DescendsMembers, DescendsGroup};
 ghost use Rattle.reader.specs.ObjectLaws.{leafFault, GroupHere};
 
@@ -39,13 +39,13 @@ pub fn stopped(row: usize, pass: Pass) -> Walked
 }
 
 // The fault of the id that stands here where no group may, 0 for none.
-fn leaf_fault(file: &[u8], at: usize) -> u32
+fn leaf_fault(file: &[u8], at: usize, version: u32) -> u32
     requires { ⌜ at ≤ length (now file) ⌝ }
     requires { ⌜ length (now file) < 2 ^ 32 ⌝ }
-    ensures { λ r. ⌜ r ≡ leafFault (now (file .entry)) at ⌝ }
+    ensures { λ r. ⌜ r ≡ leafFault version (now (file .entry)) at ⌝ }
 {
     if there(&*file, at, 2, 1) {
-        return object_fault(false, char_at(&*file, at) as u64);
+        return object_fault(false, version, char_at(&*file, at) as u64);
     }
     CUT
 }
@@ -91,7 +91,7 @@ fn leaf(
     requires { ⌜ Stands (length (now file)) at row to ⌝ }
     ensures { λ r. ⌜ DescendsObject (now (file .entry)) version 0 parent at row to (now (contents .entry)) (now (bodies .entry)) (now (contents .exit)) (now (bodies .exit)) r ⌝ }
 {
-    let fault = leaf_fault(&*file, at);
+    let fault = leaf_fault(&*file, at, version);
     if fault != 0 {
         return stopped(row, refusal(fault, at));
     }

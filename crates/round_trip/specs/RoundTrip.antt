@@ -8,10 +8,9 @@ use Rattle.format.specs.Digits.{Below}
 use Rattle.drawing.specs.declared.Answer.{Answer}
 use Rattle.drawing.specs.String.{String}
 use Rattle.drawing.specs.Text.{Text}
-use Rattle.drawing.specs.ObjectId.{textOf}
 use Rattle.drawing.specs.Table.{rowWidth}
 use Rattle.drawing.specs.Answers.{answer, overwrite}
-use Rattle.drawing.specs.Questions.{Found, part, refusal, partOf, leafPart, shownChars}
+use Rattle.drawing.specs.Questions.{Found, part, refusal, partOf, leafPart, wording, shownChars}
 use Rattle.promises.specs.Promises.{Reads, OfTable, Checks, Writes}
 use Rattle.round_trip.specs.declared.Both.{Both}
 
@@ -55,4 +54,4 @@ charsShown (part t) = shownChars t
 
 -- The chars of a run are those to show of a row's text; none where there is no table, no such row, or no text.
 pub record ShowsText (contents bodies : List ℕ) (row : ℕ) (chars : List ℕ) : Type 0 where
-  pub decides : OfTable contents bodies (λ d. charsShown (partOf (leafPart textOf) row d)) [] chars
+  pub decides : OfTable contents bodies (λ d. charsShown (partOf (leafPart wording) row d)) [] chars

@@ -1,29 +1,17 @@
--- Rows stored word by word, and the kind of a leaf by its letter.
-use mathlib.Core.Path.{_≡_, refl, sym, ap, _∙_}
-use mathlib.Core.Bool.{cond}
+-- Rows stored word by word.
+use mathlib.Core.Path.{_≡_, sym, ap, _∙_}
 use Prim.Native.Nat.{ℕ, _+_, _%_, _^_, _<_, _≤_}
 use native.Mathlib.Nat as Nat
 use native.Mathlib.Omega.{arith}
 use native.Mathlib.Numerals.{add-one}
 use mathlib.Core.List.{List, [], _∷_, _++_}
-use lib.Dec.{eqb}
 use lib.ListN.{length, take, drop, set, length-append}
 use lib.Seq.{set-split}
 use Rattle.format.specs.Digits.{digits}
 use Rattle.format.specs.Pass.{splice, put}
 use Rattle.format.specs.PassLaws.{put-fits, put-short}
 use Rattle.format.specs.SpliceLaws.{splice-behind, length-splice}
-use Rattle.drawing.specs.Object.{Leaf, path, text, bitmap}
-use Rattle.drawing.specs.ObjectId.{leafLetter}
-use Rattle.drawing.specs.Table.{leafKind, row}
-
-abbrev pub kindByLetter : ℕ → ℕ
-kindByLetter c = cond (eqb c 84) 3 (cond (eqb c 73) 4 2)
-
-pub leaf-kind : (l : Leaf) → kindByLetter (leafLetter l) ≡ leafKind l
-leaf-kind (path p) = refl
-leaf-kind (text t) = refl
-leaf-kind (bitmap b) = refl
+use Rattle.drawing.specs.Table.{row}
 
 -- A word is its own digit.
 pub word-digit : (v : ℕ) → v < 2 ^ 32 → digits (2 ^ 32) 1 v ≡ v ∷ []

@@ -2,12 +2,15 @@
 use drawing::letters::BITMAP;
 use drawing::letters::PATH;
 use drawing::letters::TEXT;
+use drawing::letters::TEXT_PATH;
+use drawing::row::BITMAP_KIND;
 use drawing::row::PARENT;
 use drawing::row::PATH_KIND;
 use drawing::row::ROW_WIDTH;
 use drawing::row::SIZE;
 use drawing::row::START;
 use drawing::row::TEXT_KIND;
+use drawing::row::TEXT_PATH_KIND;
 ghost use mathlib.Core.Path.{_≡_};
 ghost use Prim.Native.Nat.{_+_, _*_, _<_, _≤_};
 ghost use lib.Dec.{leb};
@@ -71,6 +74,9 @@ pub fn is_row(
     contents[at + SIZE] as usize == size
 }
 
+// no id
+const NO_LETTER: u64 = 0;
+
 // The letter of the leaf with this kind.
 pub fn letter_of(kind: u32) -> u64
     ensures { λ r. ⌜ (r ≡ letterOf kind) × (r < 128) ⌝ }
@@ -81,5 +87,11 @@ pub fn letter_of(kind: u32) -> u64
     if kind == TEXT_KIND {
         return TEXT;
     }
-    BITMAP
+    if kind == BITMAP_KIND {
+        return BITMAP;
+    }
+    if kind == TEXT_PATH_KIND {
+        return TEXT_PATH;
+    }
+    NO_LETTER
 }

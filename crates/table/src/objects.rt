@@ -1,10 +1,12 @@
 // Objects of a table: an object that is a group calls the group's walk, which calls the object's back, and the depth left falls at each group.
 use drawing::letters::GROUP;
 use drawing::limits::LEAST_MEMBERS;
+use drawing::limits::V1_5;
 use drawing::numbers::NO_TABLE;
 use drawing::row::BITMAP_KIND;
 use drawing::row::GROUP_KIND;
 use drawing::row::PATH_KIND;
+use drawing::row::TEXT_PATH_KIND;
 use fields::ranges::word_reaches;
 use from_table::prims::put;
 use from_table_objects::end::group_end;
@@ -18,11 +20,11 @@ use rows::walked::Walked;
 use ways::Pass;
 use ways::REFUSED;
 ghost use mathlib.Core.Path.{_≡_};
-ghost use mathlib.Core.Bool.{_&&_};
 ghost use Prim.Native.Nat.{_+_, _*_, _^_, _<_, _≤_};
-ghost use lib.Dec.{leb};
 ghost use lib.ListN.{length};
+ghost use Rattle.drawing.specs.LeafLayout.{isLeaf};
 ghost use Rattle.drawing.specs.Table.{rowWidth, startIn};
+ghost use Rattle.drawing.specs.TableDrawing.{letterOf};
 ghost use Rattle.rows.specs.Rows.{rowAt};
 ghost use Rattle.ways.specs.Passes.{refused};
 ghost use Rattle.ways.specs.Written.{Writes};
@@ -42,9 +44,13 @@ pub fn no_table() -> Walked
     }
 }
 
-fn is_leaf(kind: u32) -> bool
-    ensures { λ r. ⌜ r ≡ (leb 2 kind && leb kind 4) ⌝ }
+// The kind is that of a leaf in this version.
+fn is_leaf(version: u32, kind: u32) -> bool
+    ensures { λ r. ⌜ r ≡ isLeaf version (letterOf kind) ⌝ }
 {
+    if kind == TEXT_PATH_KIND {
+        return V1_5 <= version;
+    }
     if kind < PATH_KIND {
         return false;
     }
@@ -96,7 +102,7 @@ fn leaf(
     ensures { λ r. ⌜ WalksLeaf version parent row (now (contents .entry)) (now (words .entry)) (now (out .entry)) (now (out .exit)) at to r ⌝ }
 {
     let kind = kind_in(&*contents, row);
-    if is_leaf(kind) {
+    if is_leaf(version, kind) {
         let letter = letter_of(kind);
         put(out, to, 2, letter);
         let body = leaf_body(&*words, out, at, to + 2, version, letter);

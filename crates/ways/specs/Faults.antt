@@ -5,14 +5,14 @@ use mathlib.Core.Bool.{Bool, true, false, cond}
 use Prim.Native.Nat.{ℕ, zero, suc, _^_, _<_, _≤_}
 use native.Mathlib.Omega.{arith}
 use lib.Dec.{ltb}
-use borrow.Author.Tests.{lt-ltb, le-ltb, le-leb, ltb-true, ltb-false}
+use borrow.Author.Tests.{lt-ltb, le-ltb, ltb-true, ltb-false}
 use mir.Syntax.{Width, w8, w32}
 use mir.Val.{toZ, hbits}
 use Rattle.format.specs.Kind.{Kind, Shape, Allowed, size, values, flag, byte, char, integer, float, double, stringLength, stringChar, chars}
 use Rattle.format.specs.LiteralLaws.{faultOf}
 use Rattle.drawing.specs.Fields as F
 use Rattle.drawing.specs.Fields.{unless, inRange}
-use Rattle.drawing.specs.FieldLaws.{in-range}
+use Rattle.drawing.specs.FieldLaws.{in-range, in-signed}
 use Rattle.ways.specs.Way.{Way, Exact, Blind, sourceUnits}
 
 -- This number tells what is wrong with a value in a field of this kind, 0 for nothing: refused with it, a pass comes to what its script comes to.
@@ -108,12 +108,6 @@ range-fault W k {bytes} {low} {high} {fault} {v} {n} ranged held small between =
     over : (x : ℕ) → n ≡ x → 256 ^ bytes ≤ v → 0 < n
     over zero e h = let b = between .inside e .1 in absurd (omega arith)
     over (suc x) e h = omega arith
-
--- A number below the sign is in the range of signed numbers that it is in.
-in-signed : (w : Width) (low high v : ℕ) → high < 2 ^ hbits w → low ≤ v → v ≤ high → inRange low high (toZ w v) ≡ true
-in-signed w low high v small least most =
-    let below : v < 2 ^ hbits w = omega arith in
-    rw (lt-ltb v (2 ^ hbits w) below, le-leb low v least, le-leb v high most)
 
 out-signed : (w : Width) (low high v : ℕ) → (v < low) ⊎ (high < v) → inRange low high (toZ w v) ≡ false
 out-signed w low high v out = by (inRange low high (toZ w v)) refl out

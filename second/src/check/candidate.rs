@@ -6,7 +6,8 @@
 use super::words::Words;
 use crate::model::{
     AllSettings, Arrow, Bitmap, BitmapLatex, Chain, Chars, Dashes, Drawing, Gradient, Group, Latex,
-    LineStyle, Marker, Markers, Object, OwnPaper, Paint, Paper, Path, Plain, Segment, Settings, Text,
+    LineStyle, Marker, Markers, Object, Outline, OwnPaper, Paint, Paper, Path, Plain, Segment, Settings,
+    Text, TextPath, TextStyle,
 };
 use crate::table::ROW;
 use crate::version::{Version, DEEPEST_GROUP, OWN_PAPER};
@@ -70,6 +71,7 @@ impl Candidate<'_> {
             2 => Some(Object::Path(self.path()?)),
             3 => Some(Object::Text(self.text()?)),
             4 => Some(Object::Bitmap(self.bitmap()?)),
+            5 => Some(Object::TextPath(self.text_path()?)),
             _ => None,
         }
     }
@@ -101,9 +103,16 @@ impl Candidate<'_> {
     }
 
     fn path(&mut self) -> Option<Path> {
-        let line = self.paint()?;
-        let fill = self.paint()?;
-        let style = self.line_style()?;
+        Some(Path {
+            line: self.paint()?,
+            fill: self.paint()?,
+            style: self.line_style()?,
+            outline: self.outline()?,
+            description: self.ending()?,
+        })
+    }
+
+    fn outline(&mut self) -> Option<Outline> {
         let closed = self.words.letter()? == b'C';
         let n = self.words.word()?;
         // From 1.3 the start stands before the first segment's char, below 1.3 after it.
@@ -121,8 +130,7 @@ impl Candidate<'_> {
             }
             segments.push(self.segment(letter)?);
         }
-        let description = self.ending()?;
-        Some(Path { line, fill, style, closed, start: start?, segments, description })
+        Some(Outline { closed, start: start?, segments })
     }
 
     fn segment(&mut self, letter: u8) -> Option<Segment> {
@@ -137,15 +145,30 @@ impl Candidate<'_> {
 
     fn text(&mut self) -> Option<Text> {
         Some(Text {
+            style: self.text_style()?,
+            paint: self.paint()?,
+            text: self.words.string()?,
+            description: self.ending()?,
+        })
+    }
+
+    fn text_path(&mut self) -> Option<TextPath> {
+        let paint = self.paint()?;
+        let style = self.text_style()?;
+        let text = self.words.string()?;
+        let outline = self.outline()?;
+        let description = self.ending()?;
+        Some(TextPath { text: Text { style, paint, text, description }, outline })
+    }
+
+    fn text_style(&mut self) -> Option<TextStyle> {
+        Some(TextStyle {
             family: self.words.string()?,
             shape: self.words.byte()?,
             series: self.words.byte()?,
             size: self.words.integer()?,
             transformation: self.words.transformation()?,
             latex: if self.words.flag()? { Some(self.latex()?) } else { None },
-            paint: self.paint()?,
-            text: self.words.string()?,
-            description: self.ending()?,
         })
     }
 

@@ -37,12 +37,18 @@ pub struct Report {
     /// The seed of the round under way.
     pub seed: u64,
     counts: BTreeMap<(Call, u32), u64>,
+    /// In how many rounds the drawing was of a version, or had something worth counting.
+    drawings: BTreeMap<String, u64>,
     pub disagreements: u64,
 }
 
 impl Report {
     pub fn new(folder: PathBuf) -> Report {
-        Report { folder, seed: 0, counts: BTreeMap::new(), disagreements: 0 }
+        Report { folder, seed: 0, counts: BTreeMap::new(), drawings: BTreeMap::new(), disagreements: 0 }
+    }
+
+    pub fn met(&mut self, what: String) {
+        *self.drawings.entry(what).or_insert(0) += 1;
     }
 
     /// One call: the words of both answers, and where lent memory differs from what it has to be.
@@ -90,6 +96,9 @@ impl Report {
                 numbers.map(|((_, number), count)| format!("{number}: {count}")).collect();
             println!("{:5} {:10}   {}", call.name(), self.count(call), each.join(", "));
         }
+        let drawings: Vec<String> =
+            self.drawings.iter().map(|(what, count)| format!("{what}: {count}")).collect();
+        println!("drawings           {}", drawings.join(", "));
         let total: u64 = self.counts.values().sum();
         let seconds = taken.as_secs_f64();
         println!(

@@ -4,7 +4,7 @@ use super::calls::{Asked, Comparer};
 use second::answer::Answer;
 use second::damage::fields::{of_bodies, of_file, Field};
 use second::damage::{files, tables};
-use second::generate::special::{of_depth, padded, sampler, with_chains};
+use second::generate::special::{of_depth, padded, sampler, with_chains, with_text_path};
 use second::generate::{self, all_labels, chars};
 use second::model::{Chars, Drawing};
 use second::random::Random;
@@ -12,7 +12,7 @@ use second::table::{self, Table};
 use second::version::Version;
 use second::{list, read, write};
 
-/// What the calls of a round are made from. The drawing may be over a limit.
+/// What the calls of a round are made from. The drawing may be over a limit, or have what its version lacks.
 struct Round {
     drawing: Drawing,
     file: Vec<u8>,
@@ -32,13 +32,22 @@ pub fn round(comparer: &mut Comparer, seed: u64) {
         body_fields: of_bodies(&drawing),
         drawing,
     };
+    count(comparer, &round);
     read_in_rooms(comparer, &round.file, &round.table);
     read_damaged(comparer, &round);
     ask_about(comparer, &round);
     ask_damaged(comparer, &round);
 }
 
-/// Most drawings are small; some are at a limit or just over it.
+/// Counts the drawing by its version, and if it has a text along a path.
+fn count(comparer: &mut Comparer, round: &Round) {
+    comparer.report.met(format!("1.{}", round.drawing.version.minor()));
+    if round.table.contents.chunks(table::ROW).any(|row| row[0] == 5) {
+        comparer.report.met("with X".to_string());
+    }
+}
+
+/// Most drawings are small; some are at a limit or just over it, or have a text along a path in any version.
 fn some_drawing(random: &mut Random) -> Drawing {
     let seed = random.bits();
     let version = *random.pick(&Version::ALL);
@@ -55,6 +64,7 @@ fn some_drawing(random: &mut Random) -> Drawing {
         }
         24..=26 => generate::drawing(seed, version, 15_000),
         27..=50 => generate::drawing(seed, version, 2_000),
+        51..=56 => with_text_path(seed, version, random.flag()),
         _ => generate::drawing(seed, version, random.within(1, 400)),
     }
 }
@@ -229,7 +239,8 @@ fn ask_damaged(comparer: &mut Comparer, round: &Round) {
             }
             3 => {
                 let row = some_row(&mut comparer.random, rows);
-                comparer.paint(&mut asked, row, 1);
+                let which = comparer.random.below(3) as u32;
+                comparer.paint(&mut asked, row, which);
             }
             4 => {
                 let row = some_row(&mut comparer.random, rows);

@@ -15,7 +15,7 @@ pub fn faults(kind: Kind, value: u64) -> Vec<Fault> {
     match kind {
         Kind::Signature => all(3, ["JDS", "AJR", "jdr", "JD\0", "\0JD"].map(letters)),
         Kind::VersionLength => all(4, [0, 1, 2, 4, -1, i32::MIN, i32::MAX].map(integer)),
-        Kind::VersionChars => all(4, ["1.5", "1.6", "2.0", "0.0", "1,0", "1./", "\0\0\0"].map(letters)),
+        Kind::VersionChars => all(4, ["1.6", "1.7", "2.0", "0.0", "1,0", "1./", "\0\0\0"].map(letters)),
         Kind::Flag => all(5, [2, 3, 127, 128, 255]),
         Kind::FlowFlag => [all(5, [2, 3, 127, 128, 255]), all(11, [1])].concat(),
         Kind::Byte { low, high } => byte_faults(low, high),
@@ -23,7 +23,7 @@ pub fn faults(kind: Kind, value: u64) -> Vec<Fault> {
         Kind::Integer { low, high } => integer_faults(low, high),
         Kind::Count { least } => all(8, [least - 1, -1, i32::MIN].map(integer)),
         Kind::DashCount => all(8, [1, 3, -1, -2, i32::MIN, i32::MAX].map(integer)),
-        Kind::ObjectId { depth } => object_faults(kind, depth),
+        Kind::ObjectId { depth, .. } => object_faults(kind, depth),
         Kind::Letter { .. } => letter_faults(kind),
         Kind::Component => all(9, OUT_OF_COMPONENTS),
         Kind::Hue => all(9, OUT_OF_HUES),

@@ -2,7 +2,7 @@
 
 use crate::layout::{self, Fields, Kind};
 use crate::model::{Drawing, Object};
-use crate::version::Version;
+use crate::version::{Version, PATH_LETTERS};
 
 /// A field and its place: a byte offset in the file, or a word's index in the bodies.
 #[derive(Clone, Copy, Debug)]
@@ -27,6 +27,12 @@ impl Fields for Places {
             false => kind.width(),
         };
     }
+}
+
+/// The fields before the first outline, and those from its char on.
+pub fn at_outline(fields: &[Field]) -> (&[Field], &[Field]) {
+    let begins = |field: &Field| field.kind == Kind::Letter { allowed: PATH_LETTERS };
+    fields.split_at(fields.iter().position(begins).unwrap_or(fields.len()))
 }
 
 /// How many words hold the field.

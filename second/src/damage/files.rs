@@ -2,8 +2,9 @@
 
 use super::faults::{faults, Fault};
 use super::fields::Field;
+use crate::layout::{three_chars, Kind};
 use crate::random::Random;
-use crate::version::LONGEST_FILE;
+use crate::version::{Version, LONGEST_FILE};
 
 /// The file with another value in one field.
 pub fn put(file: &[u8], field: &Field, value: u64) -> Vec<u8> {
@@ -40,6 +41,7 @@ pub fn any(random: &mut Random, file: &[u8], fields: &[Field]) -> Vec<u8> {
             one_byte(random, &faulty)
         }
         8 => head_and_noise(random, file),
+        9 => other_version(random, file, fields),
         _ => one_fault(random, file, fields),
     }
 }
@@ -90,6 +92,15 @@ fn other_value(random: &mut Random, file: &[u8], fields: &[Field]) -> Vec<u8> {
         _ => random.bits(),
     };
     put(file, field, value)
+}
+
+/// The file with the chars of some version.
+fn other_version(random: &mut Random, file: &[u8], fields: &[Field]) -> Vec<u8> {
+    let version = random.pick(&Version::ALL);
+    match fields.iter().find(|field| field.kind == Kind::VersionChars) {
+        Some(field) => put(file, field, three_chars(version.chars())),
+        None => file.to_vec(),
+    }
 }
 
 /// A fault, and the file cut near it: the earlier one of the two decides.

@@ -4,14 +4,15 @@ use super::fields::{words, Field};
 use super::files::random_fault;
 use crate::random::Random;
 use crate::table::{Table, ROW};
+use crate::version::Version;
 
 /// Words that are near an end of some range, or no value of a narrow field.
-const WORDS: [u32; 12] = [0, 1, 2, 3, 4, 5, 255, 256, 65_535, 65_536, 0x8000_0000, 0xFFFF_FFFF];
+const WORDS: [u32; 13] = [0, 1, 2, 3, 4, 5, 6, 255, 256, 65_535, 65_536, 0x8000_0000, 0xFFFF_FFFF];
 
 /// A damage, done in place; the fields are those of the good table's bodies.
 type Damage = fn(&mut Random, &mut Table, &[Field]);
 
-const DAMAGES: [Damage; 16] = [
+const DAMAGES: [Damage; 18] = [
     contents_word,
     contents_word,
     bodies_word,
@@ -20,6 +21,8 @@ const DAMAGES: [Damage; 16] = [
     faulty_field,
     faulty_field,
     too_wide_field,
+    other_version,
+    other_kind,
     other_row_count,
     other_word_count,
     word_moved,
@@ -92,6 +95,17 @@ fn too_wide_field(random: &mut Random, table: &mut Table, fields: &[Field]) {
         let bit = 8 * field.kind.width() as u32;
         table.bodies[field.place] |= 1 << random.within(bit as usize, 31);
     }
+}
+
+/// The words of one version as another's, or as none's.
+fn other_version(random: &mut Random, table: &mut Table, _fields: &[Field]) {
+    table.bodies[0] = random.within(0, Version::ALL.len()) as u32;
+}
+
+/// A row of another kind, or of none.
+fn other_kind(random: &mut Random, table: &mut Table, _fields: &[Field]) {
+    let row = random.below(table.rows() as usize);
+    table.contents[row * ROW] = random.within(0, 6) as u32;
 }
 
 /// A row too many or too few, or a row that is not whole.

@@ -1,6 +1,6 @@
 //! The walk over a file, into nothing or into the words of a table. Inlined by order, since that saves a fifth of the instructions.
 
-use super::walk::{self, too_deep, Opened, Walk, BITMAP, GROUP, PATH, TEXT};
+use super::walk::{self, kind_fault, Opened, Walk, BITMAP, GROUP, LAST_MINOR, PATH, TEXT, TEXT_PATH};
 use crate::read::Refusal;
 use crate::table::ROW;
 
@@ -176,21 +176,18 @@ impl<W: Words> Walk for FromFile<'_, W> {
     }
 
     #[inline(always)]
-    fn open(&mut self, _parent: usize, depth: u32) -> Result<Opened, Refusal> {
+    fn open(&mut self, minor: u32, _parent: usize, depth: u32) -> Result<Opened, Refusal> {
         let mut kind = 0;
         self.take_word::<2>(|bits| {
             kind = match u8::try_from(bits) {
                 Ok(b'G') => GROUP,
-                Ok(b'P') if depth > 1 => PATH,
-                Ok(b'T') if depth > 1 => TEXT,
-                Ok(b'I') if depth > 1 => BITMAP,
+                Ok(b'P') => PATH,
+                Ok(b'T') => TEXT,
+                Ok(b'I') => BITMAP,
+                Ok(b'X') => TEXT_PATH,
                 _ => return 7,
             };
-            if too_deep(kind, depth) {
-                10
-            } else {
-                0
-            }
+            kind_fault(kind, minor, depth)
         })?;
         let row = self.out.open();
         Ok(Opened { row, kind, start: self.out.words() })
@@ -216,12 +213,15 @@ impl<W: Words> Walk for FromFile<'_, W> {
     }
 }
 
+/// The last char of the last version.
+const LAST_DIGIT: u8 = b'0' + LAST_MINOR;
+
 /// The whole file.
 pub fn walk<W: Words>(mut from: FromFile<W>) -> Result<W, Refusal> {
     from.take::<6>(|bytes| if bytes == *b"\0J\0D\0R" { 0 } else { 3 })?;
     from.take_word::<4>(|length| if length == 3 { 0 } else { 4 })?;
     let version = from.take::<6>(|bytes| match bytes {
-        [0, b'1', 0, b'.', 0, b'0'..=b'4'] => 0,
+        [0, b'1', 0, b'.', 0, b'0'..=LAST_DIGIT] => 0,
         _ => 4,
     })?;
     let minor = u32::from(version[5] - b'0');

@@ -1,6 +1,6 @@
 //! The walk over a table, into nothing or into the bytes of a file. Inlined by order, as the walk over a file is.
 
-use super::walk::{self, too_deep, Opened, Walk, BITMAP, GROUP};
+use super::walk::{self, kind_fault, Opened, Walk, GROUP, LAST_MINOR};
 use crate::table::ROW;
 
 /// Where bytes go.
@@ -136,15 +136,14 @@ impl<B: Bytes> Walk for FromTable<'_, B> {
     }
 
     #[inline(always)]
-    fn open(&mut self, parent: usize, depth: u32) -> Result<Opened, NoTable> {
+    fn open(&mut self, minor: u32, parent: usize, depth: u32) -> Result<Opened, NoTable> {
         let row = self.row;
         let words = self.contents.get(row * ROW..).and_then(|rest| rest.first_chunk::<ROW>());
         let [kind, its_parent, start, _] = *words.ok_or(NoTable)?;
-        let kind_is_good = (GROUP..=BITMAP).contains(&kind) && (depth > 1 || kind == GROUP);
-        only_if(kind_is_good && !too_deep(kind, depth) && its_parent as usize == parent)?;
+        only_if(kind_fault(kind, minor, depth) == 0 && its_parent as usize == parent)?;
         only_if(kind == GROUP || start as usize == self.at)?;
         self.row += 1;
-        self.out.field::<2>(u32::from(b"GPTI"[kind as usize - 1]));
+        self.out.field::<2>(u32::from(b"GPTIX"[kind as usize - 1]));
         Ok(Opened { row, kind, start: start as usize })
     }
 
@@ -183,7 +182,7 @@ pub fn walk_object<B: Bytes>(mut from: FromTable<B>, parent: usize, depth: u32) 
 
 /// The whole table.
 pub fn walk<B: Bytes>(mut from: FromTable<B>) -> Option<B> {
-    let minor = from.word().ok().filter(|minor| *minor <= 4)?;
+    let minor = from.word().ok().filter(|minor| *minor <= u32::from(LAST_MINOR))?;
     for char in *b"JDR" {
         from.out.field::<2>(u32::from(char));
     }

@@ -1,6 +1,6 @@
-//! The layout (01, 'Fields'), said once for walks over a file and over a table.
+//! The layout (01, 'Fields'; 02, R-1), said once for walks over a file and over a table.
 
-use crate::version::{DEEPEST_GROUP, LONGEST_CHAIN, OWN_PAPER};
+use crate::version::{Version, DEEPEST_GROUP, LONGEST_CHAIN, OWN_PAPER};
 
 /// What has been opened: a row with its kind, and where its body begins.
 pub struct Opened {
@@ -13,6 +13,11 @@ pub const GROUP: u32 = 1;
 pub const PATH: u32 = 2;
 pub const TEXT: u32 = 3;
 pub const BITMAP: u32 = 4;
+/// From 1.5.
+pub const TEXT_PATH: u32 = 5;
+
+/// The minor number of the last version.
+pub const LAST_MINOR: u8 = Version::ALL.len() as u8 - 1;
 
 /// A walk over the fields of a drawing, which come from a file or from a table and go into the other.
 pub trait Walk {
@@ -28,8 +33,8 @@ pub trait Walk {
     /// A run of so many fields of this width, all of them free.
     fn run<const WIDTH: usize>(&mut self, count: usize) -> Result<(), Self::Stop>;
 
-    /// The id char of an object; a group here would have this depth, and the outer object, of depth 1, has to be one.
-    fn open(&mut self, parent: usize, depth: u32) -> Result<Opened, Self::Stop>;
+    /// The id char of an object; a group here would have this depth.
+    fn open(&mut self, minor: u32, parent: usize, depth: u32) -> Result<Opened, Self::Stop>;
 
     /// A group's n, whose word stands behind the bodies of the members.
     fn members(&mut self, opened: &Opened) -> Result<u32, Self::Stop>;
@@ -242,6 +247,10 @@ fn path<W: Walk>(walk: &mut W, minor: u32) -> Result<(), W::Stop> {
     paint(walk, minor)?;
     paint(walk, minor)?;
     line_style(walk, minor)?;
+    outline(walk, minor)
+}
+
+fn outline<W: Walk>(walk: &mut W, minor: u32) -> Result<(), W::Stop> {
     walk.field::<2>(|bits| unless(bits == u32::from(b'O') || bits == u32::from(b'C'), 7))?;
     let n = count(walk, 1)?;
     if minor < 3 {
@@ -256,6 +265,21 @@ fn path<W: Walk>(walk: &mut W, minor: u32) -> Result<(), W::Stop> {
 }
 
 fn text<W: Walk>(walk: &mut W, minor: u32) -> Result<(), W::Stop> {
+    text_style(walk)?;
+    paint(walk, minor)?;
+    string(walk, 1)?;
+    Ok(())
+}
+
+/// Here the paint comes first.
+fn text_path<W: Walk>(walk: &mut W, minor: u32) -> Result<(), W::Stop> {
+    paint(walk, minor)?;
+    text_style(walk)?;
+    string(walk, 1)?;
+    outline(walk, minor)
+}
+
+fn text_style<W: Walk>(walk: &mut W) -> Result<(), W::Stop> {
     string(walk, 0)?;
     byte(walk, 0, 1)?;
     byte(walk, 0, 1)?;
@@ -269,8 +293,6 @@ fn text<W: Walk>(walk: &mut W, minor: u32) -> Result<(), W::Stop> {
         byte(walk, 0, 3)?;
         string(walk, 0)?;
     }
-    paint(walk, minor)?;
-    string(walk, 1)?;
     Ok(())
 }
 
@@ -326,7 +348,7 @@ pub fn settings<W: Walk>(walk: &mut W, minor: u32) -> Result<(), W::Stop> {
 
 /// An object and all that it holds; as a group it has this depth.
 pub fn object<W: Walk>(walk: &mut W, minor: u32, parent: usize, depth: u32) -> Result<(), W::Stop> {
-    let mut opened = walk.open(parent, depth)?;
+    let mut opened = walk.open(minor, parent, depth)?;
     match opened.kind {
         GROUP => {
             let n = walk.members(&opened)?;
@@ -337,13 +359,21 @@ pub fn object<W: Walk>(walk: &mut W, minor: u32, parent: usize, depth: u32) -> R
         }
         PATH => path(walk, minor)?,
         TEXT => text(walk, minor)?,
-        _ => bitmap(walk)?,
+        BITMAP => bitmap(walk)?,
+        _ => text_path(walk, minor)?,
     }
     ending(walk, minor)?;
     walk.close(opened, parent)
 }
 
-/// Whether an object of this kind may stand at this depth.
-pub fn too_deep(kind: u32, depth: u32) -> bool {
-    kind == GROUP && depth > DEEPEST_GROUP
+/// The number of what is wrong with an object of this kind in this version and at this depth, or 0. The outer object, of depth 1, has to
+/// be a group.
+#[inline(always)]
+pub fn kind_fault(kind: u32, minor: u32, depth: u32) -> u32 {
+    match kind {
+        GROUP => unless(depth <= DEEPEST_GROUP, 10),
+        PATH | TEXT | BITMAP => unless(depth > 1, 7),
+        TEXT_PATH => unless(depth > 1 && minor >= 5, 7),
+        _ => 7,
+    }
 }

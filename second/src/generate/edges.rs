@@ -126,15 +126,17 @@ impl Ends {
             }
             Object::Text(text) => self.text(text),
             Object::Bitmap(_) => {}
+            Object::TextPath(along) => self.text(&mut along.text),
         }
     }
 
     fn text(&self, text: &mut Text) {
         self.paint(&mut text.paint);
-        text.shape = self.pick(0, 1);
-        text.series = self.pick(0, 1);
-        text.size = self.pick(0, i32::MAX);
-        if let Some(latex) = &mut text.latex {
+        let style = &mut text.style;
+        style.shape = self.pick(0, 1);
+        style.series = self.pick(0, 1);
+        style.size = self.pick(0, i32::MAX);
+        if let Some(latex) = &mut style.latex {
             latex.horizontal = self.pick(0, 2);
             latex.vertical = self.pick(0, 3);
         }

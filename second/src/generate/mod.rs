@@ -106,10 +106,12 @@ impl Maker {
             let room = self.random.within(0, room);
             return Object::Group(self.group(around + 1, room));
         }
-        match self.random.below(3) {
+        let leaves = if self.version.has_text_paths() { 4 } else { 3 };
+        match self.random.below(leaves) {
             0 => Object::Path(self.path()),
             1 => Object::Text(self.text()),
-            _ => Object::Bitmap(self.bitmap()),
+            2 => Object::Bitmap(self.bitmap()),
+            _ => Object::TextPath(self.text_path()),
         }
     }
 

@@ -1,9 +1,9 @@
-//! Paints, line styles, markers and the objects that are no groups (01, 'Fields').
+//! Paints, line styles, markers and the objects that are no groups (01, 'Fields'; 02, R-1).
 
 use super::Maker;
 use crate::model::{
-    Arrow, Bitmap, BitmapLatex, Chain, Dashes, Gradient, Latex, LineStyle, Marker, Markers, Paint, Path,
-    Plain, Segment, Text,
+    Arrow, Bitmap, BitmapLatex, Chain, Dashes, Gradient, Latex, LineStyle, Marker, Markers, Outline, Paint,
+    Path, Plain, Segment, Text, TextPath, TextStyle,
 };
 use crate::version::LONGEST_CHAIN;
 
@@ -149,18 +149,30 @@ impl Maker {
 
     pub fn path(&mut self) -> Path {
         let most = if self.random.once_in(4) { LONGEST_CHAIN } else { 1 };
-        let count = match self.random.below(8) {
-            0 => self.random.within(1, 12),
-            _ => self.random.within(1, 3),
-        };
+        let count = self.segment_count();
         Path {
             line: self.paint(),
             fill: self.paint(),
             style: self.line_style(most),
+            outline: self.outline(count),
+            description: self.description(),
+        }
+    }
+
+    /// Most outlines are short.
+    fn segment_count(&mut self) -> usize {
+        match self.random.below(8) {
+            0 => self.random.within(1, 12),
+            _ => self.random.within(1, 3),
+        }
+    }
+
+    /// An outline of so many segments.
+    fn outline(&mut self, count: usize) -> Outline {
+        Outline {
             closed: self.random.flag(),
             start: self.point(),
             segments: (0..count).map(|_| self.segment()).collect(),
-            description: self.description(),
         }
     }
 
@@ -179,22 +191,34 @@ impl Maker {
     }
 
     pub fn text(&mut self) -> Text {
+        Text {
+            style: self.text_style(),
+            paint: self.paint(),
+            text: self.string(1),
+            description: self.description(),
+        }
+    }
+
+    fn text_style(&mut self) -> TextStyle {
         let size = match self.random.below(6) {
             0 => i32::MAX,
             1 => 0,
             _ => self.random.within(1, 72) as i32,
         };
-        Text {
+        TextStyle {
             family: self.string(0),
             shape: self.random.byte(1),
             series: self.random.byte(1),
             size,
             transformation: self.transformation(),
             latex: if self.random.flag() { Some(self.latex()) } else { None },
-            paint: self.paint(),
-            text: self.string(1),
-            description: self.description(),
         }
+    }
+
+    /// From 1.5; below it makes no good drawing.
+    pub fn text_path(&mut self) -> TextPath {
+        let count = self.segment_count();
+        TextPath { text: self.text(), outline: self.outline(count) }
     }
 
     pub fn latex(&mut self) -> Latex {

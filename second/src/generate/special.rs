@@ -1,7 +1,9 @@
 //! Drawings that reach one thing for certain: every kind of part, a depth, a chain, a length.
 
 use super::{chars, Maker};
-use crate::model::{Bitmap, Chars, Drawing, Group, LineStyle, Markers, Object, Settings};
+use crate::model::{
+    Bitmap, Chars, Drawing, Group, LineStyle, Markers, Object, Outline, Settings, Text, TextPath,
+};
 use crate::version::{Version, DEEPEST_GROUP, LONGEST_CHAIN};
 use crate::write;
 
@@ -22,8 +24,11 @@ fn sample(mut maker: Maker) -> Drawing {
     let mut all = maker.all_settings();
     all.paper = maker.own_paper();
     let mut objects = every_path(&mut maker);
-    objects.extend(every_text(&mut maker));
+    objects.extend(every_text(&mut maker, 0).into_iter().map(Object::Text));
     objects.extend(every_bitmap(&mut maker));
+    if version.has_text_paths() {
+        objects.extend(every_text_path(&mut maker));
+    }
     let leaf = Object::Bitmap(maker.bitmap());
     objects.push(nested(leaf, DEEPEST_GROUP - 1));
     objects.push(Object::Group(maker.group(2, 200)));
@@ -40,12 +45,17 @@ fn every_path(maker: &mut Maker) -> Vec<Object> {
         let mut path = maker.path();
         path.line = maker.paint_of(*letter);
         path.fill = maker.paint_of(other);
-        path.segments = b"BLMLBM".iter().map(|each| maker.segment_of(*each)).collect();
-        path.closed = place % 2 == 0;
+        every_segment(maker, &mut path.outline, place);
         every_style(maker, &mut path.style, place);
         paths.push(Object::Path(path));
     }
     paths
+}
+
+/// All segments, closed every other time.
+fn every_segment(maker: &mut Maker, outline: &mut Outline, place: usize) {
+    outline.segments = b"BLMLBM".iter().map(|each| maker.segment_of(*each)).collect();
+    outline.closed = place % 2 == 0;
 }
 
 /// Joins with and without a mitre limit, with and without dashes, chains of three different lengths.
@@ -66,23 +76,34 @@ fn every_style(maker: &mut Maker, style: &mut LineStyle, place: usize) {
     }
 }
 
-/// Texts without LaTeX fields, with them, and with an empty alternative; every paint.
-fn every_text(maker: &mut Maker) -> Vec<Object> {
+/// Texts without LaTeX fields, with them, and with an empty alternative, in turn from the one of this number; every paint.
+fn every_text(maker: &mut Maker, first: usize) -> Vec<Text> {
     let letters = maker.version.paint_letters();
     let mut texts = Vec::new();
-    for (place, letter) in letters.iter().enumerate() {
+    for (turn, letter) in (first..).zip(letters) {
         let mut text = maker.text();
         text.paint = maker.paint_of(*letter);
-        text.latex = match place % 3 {
+        text.style.latex = match turn % 3 {
             0 => None,
             _ => Some(maker.latex()),
         };
-        if let Some(latex) = &mut text.latex {
-            latex.alternative = if place % 3 == 1 { chars("alt") } else { Chars::new() };
+        if let Some(latex) = &mut text.style.latex {
+            latex.alternative = if turn % 3 == 1 { chars("alt") } else { Chars::new() };
         }
-        texts.push(Object::Text(text));
+        texts.push(text);
     }
     texts
+}
+
+/// Such texts along paths, but that paints which had no LaTeX fields before have them now.
+fn every_text_path(maker: &mut Maker) -> Vec<Object> {
+    let mut objects = Vec::new();
+    for (place, text) in every_text(maker, 1).into_iter().enumerate() {
+        let mut along = TextPath { text, ..maker.text_path() };
+        every_segment(maker, &mut along.outline, place);
+        objects.push(Object::TextPath(along));
+    }
+    objects
 }
 
 /// A bitmap without the two strings and one with them.
@@ -145,6 +166,14 @@ pub fn with_chains(seed: u64, version: Version, lengths: [usize; 3]) -> Drawing 
         end: maker.chain(lengths[2]),
     };
     plain_drawing(version, vec![Object::Path(path)])
+}
+
+/// A text along a path, with LaTeX fields or without. Below 1.5 it is no good drawing.
+pub fn with_text_path(seed: u64, version: Version, latex: bool) -> Drawing {
+    let mut maker = Maker::new(seed, version);
+    let mut along = maker.text_path();
+    along.text.style.latex = latex.then(|| maker.latex());
+    plain_drawing(version, vec![Object::TextPath(along)])
 }
 
 /// The drawing with one more bitmap, its name so long that the file has exactly this length.

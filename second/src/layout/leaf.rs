@@ -1,9 +1,9 @@
-//! The fields of paths, texts and bitmaps after their id char (01, 'Object', 'Paint', 'Line style').
+//! The fields of the objects that are no groups, after their id char (01, 'Object', 'Paint', 'Line style'; 02, R-1).
 
 use super::{ending, flag, integer, length, string, Fields, Kind};
 use crate::model::{
-    Arrow, Bitmap, Chain, Double, Float, Gradient, Latex, LineStyle, Marker, Markers, Object, Paint, Path,
-    Plain, Point, Segment, Text,
+    Arrow, Bitmap, Chain, Double, Float, Gradient, Latex, LineStyle, Marker, Markers, Object, Outline, Paint,
+    Path, Plain, Point, Segment, Text, TextPath, TextStyle,
 };
 use crate::version::{Version, PATH_LETTERS, SEGMENT_LETTERS};
 
@@ -13,6 +13,7 @@ pub fn leaf(out: &mut impl Fields, version: Version, object: &Object) {
         Object::Path(inner) => path(out, version, inner),
         Object::Text(inner) => text(out, version, inner),
         Object::Bitmap(inner) => bitmap(out, inner),
+        Object::TextPath(inner) => text_path(out, version, inner),
         Object::Group(_) => unreachable!("a group is no leaf"),
     }
     ending(out, version, object.description());
@@ -22,13 +23,17 @@ fn path(out: &mut impl Fields, version: Version, path: &Path) {
     paint(out, version, &path.line);
     paint(out, version, &path.fill);
     line_style(out, version, &path.style);
-    letter(out, PATH_LETTERS, if path.closed { b'C' } else { b'O' });
-    length(out, 1, path.segments.len());
+    outline(out, version, &path.outline);
+}
+
+fn outline(out: &mut impl Fields, version: Version, outline: &Outline) {
+    letter(out, PATH_LETTERS, if outline.closed { b'C' } else { b'O' });
+    length(out, 1, outline.segments.len());
     if version.has_path_start() {
-        point(out, Kind::Double, path.start);
+        point(out, Kind::Double, outline.start);
     }
-    let mut before = path.start;
-    for (place, inner) in path.segments.iter().enumerate() {
+    let mut before = outline.start;
+    for (place, inner) in outline.segments.iter().enumerate() {
         letter(out, SEGMENT_LETTERS, segment_letter(inner));
         if !version.has_path_start() {
             // The segment's own start; from the second on it joins the end of the one before.
@@ -56,17 +61,29 @@ fn segment_points(out: &mut impl Fields, segment: &Segment) {
 }
 
 fn text(out: &mut impl Fields, version: Version, text: &Text) {
-    string(out, 0, &text.family);
-    byte(out, 0, 1, text.shape);
-    byte(out, 0, 1, text.series);
-    integer(out, Kind::Integer { low: 0, high: i32::MAX }, text.size);
-    doubles(out, &text.transformation);
-    flag(out, text.latex.is_some());
-    if let Some(latex) = &text.latex {
-        latex_fields(out, latex);
-    }
+    text_style(out, &text.style);
     paint(out, version, &text.paint);
     string(out, 1, &text.text);
+}
+
+/// Here the paint comes first.
+fn text_path(out: &mut impl Fields, version: Version, along: &TextPath) {
+    paint(out, version, &along.text.paint);
+    text_style(out, &along.text.style);
+    string(out, 1, &along.text.text);
+    outline(out, version, &along.outline);
+}
+
+fn text_style(out: &mut impl Fields, style: &TextStyle) {
+    string(out, 0, &style.family);
+    byte(out, 0, 1, style.shape);
+    byte(out, 0, 1, style.series);
+    integer(out, Kind::Integer { low: 0, high: i32::MAX }, style.size);
+    doubles(out, &style.transformation);
+    flag(out, style.latex.is_some());
+    if let Some(latex) = &style.latex {
+        latex_fields(out, latex);
+    }
 }
 
 fn latex_fields(out: &mut impl Fields, latex: &Latex) {

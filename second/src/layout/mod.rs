@@ -1,10 +1,10 @@
-//! The fields of a drawing in file order (01, 'Fields'), said once for all that is made of them:
+//! The fields of a drawing in file order (01, 'Fields'; 02, R-1), said once for all that is made of them:
 //! the file's bytes, the table's words, and the list of fields that damage is put at.
 
 mod leaf;
 
 use crate::model::{AllSettings, Chars, Drawing, Group, Object, Paper, Settings};
-use crate::version::{Version, LONGEST_CHAIN, OBJECT_LETTERS, OUTER_LETTERS};
+use crate::version::{Version, LONGEST_CHAIN, OUTER_LETTERS};
 
 pub use leaf::{leaf, paint};
 
@@ -36,9 +36,10 @@ pub enum Kind {
         least: i32,
     },
     DashCount,
-    /// The id char of an object; a group here would have this depth.
+    /// The id char of an object, one of these; a group here would have this depth.
     ObjectId {
         depth: u32,
+        allowed: &'static [u8],
     },
     /// A char that has to be one of these.
     Letter {
@@ -97,9 +98,7 @@ impl Kind {
     /// The chars that an id or letter field allows.
     pub fn allowed(self) -> &'static [u8] {
         match self {
-            Kind::ObjectId { depth: 1 } => OUTER_LETTERS,
-            Kind::ObjectId { .. } => OBJECT_LETTERS,
-            Kind::Letter { allowed } => allowed,
+            Kind::ObjectId { allowed, .. } | Kind::Letter { allowed } => allowed,
             _ => b"",
         }
     }
@@ -120,7 +119,7 @@ pub fn file(out: &mut impl Fields, drawing: &Drawing) {
     let version = drawing.version;
     signature(out, version);
     settings(out, version, &drawing.settings);
-    id_char(out, b'G', 1);
+    id_char(out, OUTER_LETTERS, b'G', 1);
     group(out, version, &drawing.outer, 1);
 }
 
@@ -181,7 +180,7 @@ fn paper(out: &mut impl Fields, version: Version, paper: &Paper) {
 
 /// An object inside a group, from its id char on.
 pub fn object(out: &mut impl Fields, version: Version, object: &Object, depth: u32) {
-    id_char(out, letter_of(object), depth);
+    id_char(out, version.object_letters(), letter_of(object), depth);
     match object {
         Object::Group(inner) => group(out, version, inner, depth),
         other => leaf(out, version, other),
@@ -195,11 +194,12 @@ pub fn letter_of(object: &Object) -> u8 {
         Object::Path(_) => b'P',
         Object::Text(_) => b'T',
         Object::Bitmap(_) => b'I',
+        Object::TextPath(_) => b'X',
     }
 }
 
-fn id_char(out: &mut impl Fields, letter: u8, depth: u32) {
-    out.field(Kind::ObjectId { depth }, u64::from(letter));
+fn id_char(out: &mut impl Fields, allowed: &'static [u8], letter: u8, depth: u32) {
+    out.field(Kind::ObjectId { depth, allowed }, u64::from(letter));
 }
 
 /// Integer n, then n objects; the flag and description of a group come after its objects.

@@ -1,10 +1,11 @@
 //! Files that are refused: each number from 2 to 13 in every version and every sort of field.
 
 use crate::damage::faults::{faults, Fault};
-use crate::damage::fields::{of_file, Field};
+use crate::damage::fields::{at_outline, of_file, Field};
 use crate::damage::files::{longer, put};
-use crate::generate::special::sampler;
+use crate::generate::special::{sampler, with_text_path};
 use crate::layout::Kind;
+use crate::model::Drawing;
 use crate::random::Random;
 use crate::version::{Version, DEEPEST_GROUP};
 use crate::write;
@@ -20,8 +21,11 @@ struct Whole {
 
 impl Whole {
     fn new(seed: u64, version: Version) -> Whole {
-        let drawing = sampler(seed, version);
-        Whole { version, file: write::file(&drawing), fields: of_file(&drawing) }
+        Whole::of(&sampler(seed, version))
+    }
+
+    fn of(drawing: &Drawing) -> Whole {
+        Whole { version: drawing.version, file: write::file(drawing), fields: of_file(drawing) }
     }
 
     fn name(&self, what: &str) -> String {
@@ -43,6 +47,7 @@ pub fn add(files: &mut Files, seed: u64) {
         long_count(files, &whole, &mut random);
         trailing(files, &whole);
     }
+    text_paths(files, seed);
     named(files, seed);
     orders(files, seed);
 }
@@ -52,10 +57,15 @@ fn cuts(files: &mut Files, whole: &Whole, random: &mut Random) {
     for sort in sorts(whole.fields.iter().map(|field| sort_of(field.kind))) {
         let such: Vec<&Field> = whole.fields.iter().filter(|field| sort_of(field.kind) == sort).collect();
         let field = random.pick(&such);
-        let kept = field.place + random.below(field.kind.width());
-        let what = format!("2: cut to {kept} bytes, {} at {}", field.kind.name(), field.place);
-        files.push((whole.name(&what), whole.file[..kept].to_vec()));
+        cut(files, whole, field, random.below(field.kind.width()));
     }
+}
+
+/// So many bytes of the field are left.
+fn cut(files: &mut Files, whole: &Whole, field: &Field, left: usize) {
+    let kept = field.place + left;
+    let what = format!("2: cut to {kept} bytes, {} at {}", field.kind.name(), field.place);
+    files.push((whole.name(&what), whole.file[..kept].to_vec()));
 }
 
 /// How many faults of each sort of field and each number are put into every version.
@@ -79,7 +89,7 @@ fn single_faults(files: &mut Files, whole: &Whole, random: &mut Random) {
 /// Fields of one sort are at fault in the same ways, whatever the depth of an object inside.
 fn sort_of(kind: Kind) -> Kind {
     match kind {
-        Kind::ObjectId { depth: 2..=DEEPEST_GROUP } => Kind::ObjectId { depth: 2 },
+        Kind::ObjectId { depth: 2..=DEEPEST_GROUP, allowed } => Kind::ObjectId { depth: 2, allowed },
         other => other,
     }
 }
@@ -108,7 +118,11 @@ fn all_faults(whole: &Whole) -> Vec<(Field, Fault)> {
 fn long_count(files: &mut Files, whole: &Whole, random: &mut Random) {
     let is_count = |field: &&Field| matches!(field.kind, Kind::Count { .. });
     let counts: Vec<&Field> = whole.fields.iter().filter(is_count).collect();
-    let field = random.pick(&counts);
+    let field = *random.pick(&counts);
+    put_long_count(files, whole, field);
+}
+
+fn put_long_count(files: &mut Files, whole: &Whole, field: &Field) {
     let what = format!("a count of 2,147,483,647 at {}", field.place);
     whole.add_put(files, &what, field, 0x7FFF_FFFF);
 }
@@ -119,9 +133,34 @@ fn trailing(files: &mut Files, whole: &Whole) {
     files.push((whole.name(&what), longer(&whole.file, &vec![0; count])));
 }
 
+/// Texts along paths: below 1.5 the id char is at fault, and from then on each sort of field, in the text and in the outline.
+fn text_paths(files: &mut Files, seed: u64) {
+    for version in Version::ALL {
+        let mut whole = Whole::of(&with_text_path(seed + 40, version, true));
+        if !version.has_text_paths() {
+            files.push((whole.name("7: X below 1.5"), whole.file));
+            continue;
+        }
+        let mut random = Random::new(seed + 40);
+        let (before, outline) = at_outline(&whole.fields);
+        let is_before = |field: &&Field| !matches!(field.kind, Kind::ObjectId { depth: 2, .. });
+        let text = before.iter().skip_while(is_before).copied().collect();
+        for part in [text, outline.to_vec()] {
+            whole.fields = part;
+            cuts(files, &whole, &mut random);
+            single_faults(files, &whole, &mut random);
+        }
+        // What is left is the outline: its char, n, the start point, the segments.
+        for field in &whole.fields[..5] {
+            cut(files, &whole, field, field.kind.width() - 1);
+        }
+        put_long_count(files, &whole, &whole.fields[1]);
+    }
+}
+
 /// The faults that 01 names: settings 3 in 1.3, hue 360 in a paint, and its neighbour that is good.
 fn named(files: &mut Files, seed: u64) {
-    let [.., v3, v4] = Version::ALL;
+    let [.., v3, v4, _] = Version::ALL;
     let third = Whole::new(seed + 20, v3);
     third.add_put(files, "settings 3", &third.fields[3], 3);
     let fourth = Whole::new(seed + 20, v4);

@@ -4,10 +4,10 @@ use super::{hash, table_data, Case, FILL};
 use crate::answer::Answer;
 use crate::ask;
 use crate::check::{self, Good};
-use crate::generate::special::{of_depth, padded, plain_bitmap, plain_drawing, sampler};
+use crate::generate::special::{of_depth, padded, plain_bitmap, plain_drawing, sampler, with_text_path};
 use crate::generate::{self, all_labels, chars, Maker};
 use crate::list;
-use crate::model::{Chars, Drawing, Gradient, Object, Paint, Plain};
+use crate::model::{Chars, Drawing, Gradient, Object, Paint, Plain, TextPath};
 use crate::table::{self, Table};
 use crate::version::Version;
 
@@ -27,6 +27,7 @@ pub fn cases(seed: u64) -> Vec<Case> {
     depths(&mut all);
     paints(&mut all, seed);
     negative_zeros(&mut all, seed);
+    text_paths(&mut all, seed);
     many_entries(&mut all);
     refused(&mut all, seed);
     all.into_iter().map(case).collect()
@@ -111,9 +112,9 @@ fn describe_all(objects: &mut [Object], opened: &mut usize) {
 
 /// One label at every depth, and at some only.
 fn depths(all: &mut All) {
-    let [v0, v1, v2, v3, v4] = Version::ALL;
+    let [v0, v1, described @ ..] = Version::ALL;
     let label = chars("deep");
-    for version in [v2, v3, v4] {
+    for version in described {
         let drawing = of_depth(version, 16, &label);
         add(all, "one label at every depth", &drawing, &label);
         let mut some = drawing.clone();
@@ -168,9 +169,23 @@ fn negative_zeros(all: &mut All, seed: u64) {
             objects.push(Object::Path(path));
             let mut text = maker.text();
             text.paint = Paint::Linear(Gradient { first: plain.clone(), second: plain, place: 7 });
+            if version.has_text_paths() {
+                objects.push(Object::TextPath(TextPath { text: text.clone(), ..maker.text_path() }));
+            }
             objects.push(Object::Text(text));
         }
         add(all, "components of -0", &plain_drawing(version, objects), &[]);
+    }
+}
+
+/// A text along a path with its own label, and below 1.5, where no table has one.
+fn text_paths(all: &mut All, seed: u64) {
+    let [.., v4, v5] = Version::ALL;
+    let label = chars("along");
+    for (version, latex) in [(v5, false), (v5, true), (v4, true)] {
+        let mut drawing = with_text_path(seed, version, latex);
+        *drawing.outer.objects[0].description_mut() = label.clone();
+        add(all, "a text along a path", &drawing, &label);
     }
 }
 

@@ -5,7 +5,7 @@ use crate::answer::Answer;
 use crate::damage::files;
 use crate::generate::edges::{at_ends, every_pairing, every_settings};
 use crate::generate::special::{
-    nan_sampler, of_depth, padded, plain_bitmap, plain_drawing, sampler, with_chains,
+    nan_sampler, of_depth, padded, plain_bitmap, plain_drawing, sampler, with_chains, with_text_path,
 };
 use crate::generate::{self, chars};
 use crate::model::{Drawing, Object};
@@ -63,26 +63,27 @@ fn marked(files: &mut Files) {
 
 /// 01's cases that are run only: depth 16 and 17, 4 and 5 markers (hue 360 and settings 3 are faults).
 fn run_only(files: &mut Files, seed: u64) {
-    let [v0, v1, v2, v3, v4] = Version::ALL;
-    for (version, depth) in [(v0, 16), (v0, 17), (v2, 17), (v4, 16), (v4, 17)] {
+    let [v0, v1, v2, v3, v4, v5] = Version::ALL;
+    for (version, depth) in [(v0, 16), (v0, 17), (v2, 17), (v4, 16), (v4, 17), (v5, 16), (v5, 17)] {
         let drawing = of_depth(version, depth, &chars("deep"));
         add(files, &format!("depth {depth}"), version, &drawing);
     }
-    for version in [v1, v4] {
+    for version in [v1, v4, v5] {
         add(files, "4 markers in each chain", version, &with_chains(seed, version, [4, 4, 4]));
     }
-    for (version, lengths) in [(v1, [5, 0, 0]), (v2, [4, 5, 1]), (v3, [0, 0, 5]), (v4, [4, 4, 5])] {
+    let chains = [(v1, [5, 0, 0]), (v2, [4, 5, 1]), (v3, [0, 0, 5]), (v4, [4, 4, 5]), (v5, [0, 5, 4])];
+    for (version, lengths) in chains {
         let drawing = with_chains(seed, version, lengths);
         add(files, &format!("chains of {lengths:?} markers"), version, &drawing);
     }
 }
 
 fn limits(files: &mut Files, seed: u64) {
-    let [v0, .., v4] = Version::ALL;
+    let [v0, .., v5] = Version::ALL;
     let small = plain_drawing(v0, vec![Object::Bitmap(plain_bitmap(1))]);
-    let large = generate::drawing(seed, v4, 64_000);
+    let large = generate::drawing(seed, v5, 64_000);
     add(files, "exactly 65,535 bytes, mostly a name", v0, &padded(small.clone(), LONGEST_FILE));
-    add(files, "exactly 65,535 bytes, many objects", v4, &padded(large, LONGEST_FILE));
+    add(files, "exactly 65,535 bytes, many objects", v5, &padded(large, LONGEST_FILE));
     add(files, "65,536 bytes of a good layout", v0, &padded(small, LONGEST_FILE + 1));
     let mut filled = plans::plan_a();
     filled.resize(LONGEST_FILE + 1, 0);
@@ -103,6 +104,11 @@ fn good(files: &mut Files, seed: u64) {
         }
         let drawing = generate::drawing(seed + 1, version, 900);
         add(files, "some drawing", version, &drawing);
+        if version.has_text_paths() {
+            let [without, with] = [false, true].map(|latex| with_text_path(seed, version, latex));
+            add(files, "a text along a path", version, &without);
+            add(files, "a text along a path, with LaTeX fields", version, &with);
+        }
     }
 }
 

@@ -4,9 +4,11 @@ use super::{hash, table_data, Case, FILL_BYTE};
 use crate::answer::Answer;
 use crate::check::{self, Good};
 use crate::damage::faults::faults;
-use crate::damage::fields::{of_bodies, Field};
+use crate::damage::fields::{at_outline, of_bodies, Field};
 use crate::damage::tables::{deep, exchange_bodies, put};
-use crate::generate::special::{nested, of_depth, padded, plain_bitmap, plain_drawing, sampler, with_chains};
+use crate::generate::special::{
+    nested, of_depth, padded, plain_bitmap, plain_drawing, sampler, with_chains, with_text_path,
+};
 use crate::generate::{self, chars};
 use crate::layout::Kind;
 use crate::model::{Drawing, Object};
@@ -28,7 +30,10 @@ pub fn cases(seed: u64) -> Vec<Case> {
     other_lengths(&mut tables, seed);
     for version in Version::ALL {
         broken_rows(&mut tables, version, seed);
-        broken_fields(&mut tables, version, seed);
+        let drawing = generate::drawing(seed + 6, version, 1_500);
+        broken_fields(&mut tables, &drawing, &of_bodies(&drawing), seed + 7);
+        other_minor(&mut tables, &drawing);
+        text_paths(&mut tables, version, seed);
     }
     exchanged(&mut tables);
     ended_parent(&mut tables);
@@ -85,20 +90,21 @@ fn good(tables: &mut Tables, seed: u64) {
 }
 
 fn limits(tables: &mut Tables, seed: u64) {
-    let [v0, v1, .., v4] = Version::ALL;
+    let [v0, v1, .., v4, v5] = Version::ALL;
     let bitmap = || Object::Bitmap(plain_bitmap(1));
     for length in [LONGEST_FILE, LONGEST_FILE + 1] {
-        let drawing = padded(plain_drawing(v4, vec![bitmap()]), length);
-        add(tables, v4, &format!("its file has {length} bytes"), table::of(&drawing));
+        let drawing = padded(plain_drawing(v5, vec![bitmap()]), length);
+        add(tables, v5, &format!("its file has {length} bytes"), table::of(&drawing));
     }
     for depth in [16, 17] {
-        for version in [v0, v4] {
+        for version in [v0, v4, v5] {
             let drawing = of_depth(version, depth, &chars("deep"));
             add(tables, version, &format!("depth {depth}"), table::of(&drawing));
         }
     }
     tables.push(("1.2: 1,000 groups, each inside the other".into(), deep(1_000)));
-    for (version, lengths) in [(v1, [4, 4, 4]), (v1, [5, 0, 0]), (v4, [4, 4, 4]), (v4, [0, 5, 0])] {
+    let chains = [(v1, [4, 4, 4]), (v1, [5, 0, 0]), (v4, [4, 4, 4]), (v4, [0, 5, 0]), (v5, [4, 4, 4])];
+    for (version, lengths) in chains {
         let drawing = with_chains(seed, version, lengths);
         add(tables, version, &format!("chains of {lengths:?} markers"), table::of(&drawing));
     }
@@ -106,9 +112,9 @@ fn limits(tables: &mut Tables, seed: u64) {
 
 /// Runs that are empty, not whole, or longer or shorter than those used.
 fn other_lengths(tables: &mut Tables, seed: u64) {
-    let [v0, .., v4] = Version::ALL;
+    let [v0, .., v5] = Version::ALL;
     tables.push(("empty contents and bodies".into(), Table::default()));
-    for (version, table) in [(v0, plan_a()), (v4, table::of(&generate::drawing(seed, v4, 500)))] {
+    for (version, table) in [(v0, plan_a()), (v5, table::of(&generate::drawing(seed, v5, 500)))] {
         let (rows, words) = (table.contents.len(), table.bodies.len());
         let lengths = [
             ("empty contents", 0, words),
@@ -142,8 +148,8 @@ fn broken_rows(tables: &mut Tables, version: Version, seed: u64) {
     let table = table::of(&some_groups(version, seed + 5));
     let mut random = Random::new(seed + u64::from(version.minor()));
     let changes: [(&str, usize, Change); 7] = [
-        ("another kind", 0, |kind| kind % 4 + 1),
-        ("kind 0 or 5", 0, |kind| 5 * (kind % 2)),
+        ("another kind", 0, |kind| kind % 5 + 1),
+        ("kind 0 or 6", 0, |kind| 6 * (kind % 2)),
         ("another parent", 1, |parent| parent + 1),
         ("parent 4,294,967,295", 1, |_| u32::MAX),
         ("start one off", 2, |start| start + 1),
@@ -159,15 +165,11 @@ fn broken_rows(tables: &mut Tables, version: Version, seed: u64) {
     }
 }
 
-/// One word of the bodies wrong, for each kind of field.
-fn broken_fields(tables: &mut Tables, version: Version, seed: u64) {
-    let drawing = generate::drawing(seed + 6, version, 1_500);
-    let table = table::of(&drawing);
-    let fields = of_bodies(&drawing);
-    let mut random = Random::new(seed + 7 + u64::from(version.minor()));
-    let mut first = table.clone();
-    first.bodies[0] = 5;
-    add(tables, version, "minor version 5", first);
+/// One word of the bodies wrong, for each kind of field among these.
+fn broken_fields(tables: &mut Tables, drawing: &Drawing, fields: &[Field], seed: u64) {
+    let version = drawing.version;
+    let table = table::of(drawing);
+    let mut random = Random::new(seed + u64::from(version.minor()));
     let kinds: [(&str, Wanted); 10] = [
         ("flag", |kind| kind == Kind::Flag),
         ("flow flag", |kind| kind == Kind::FlowFlag),
@@ -190,6 +192,53 @@ fn broken_fields(tables: &mut Tables, version: Version, seed: u64) {
             let (place, old) = (field.place, field.value);
             add(tables, version, &format!("{name} at word {place}: {value} for {old}"), table);
         }
+    }
+}
+
+/// The same words with the number of the next version.
+fn other_minor(tables: &mut Tables, drawing: &Drawing) {
+    let mut table = table::of(drawing);
+    table.bodies[0] += 1;
+    add(tables, drawing.version, &format!("as minor version {}", table.bodies[0]), table);
+}
+
+/// Texts along paths, which no table has below 1.5.
+fn text_paths(tables: &mut Tables, version: Version, seed: u64) {
+    for (name, latex) in [("a text along a path", false), ("a text along a path, with LaTeX fields", true)] {
+        let drawing = with_text_path(seed + 9, version, latex);
+        add(tables, version, name, table::of(&drawing));
+        if version.has_text_paths() {
+            broken_text_path(tables, &drawing, seed);
+        }
+    }
+}
+
+/// A text along a path as another kind and in the version before; its text and its outline broken.
+fn broken_text_path(tables: &mut Tables, drawing: &Drawing, seed: u64) {
+    let version = drawing.version;
+    let table = table::of(drawing);
+    for kind in [2, 3, 4] {
+        let mut table = table.clone();
+        table.contents[ROW] = kind;
+        add(tables, version, &format!("a text along a path as kind {kind}"), table);
+    }
+    let mut before = table.clone();
+    before.bodies[0] -= 1;
+    add(tables, version, &format!("a text along a path as minor version {}", before.bodies[0]), before);
+    let fields = of_bodies(drawing);
+    let (text, outline) = at_outline(&fields);
+    broken_fields(tables, drawing, text, seed + 9);
+    broken_fields(tables, drawing, outline, seed + 9);
+    let (letter, n) = (&outline[0], &outline[1]);
+    let wrong = [
+        ("neither open nor closed", letter, u64::from(b'X')),
+        ("no segment", n, 0),
+        ("a segment more", n, n.value + 1),
+    ];
+    for (name, field, value) in wrong {
+        let mut table = table.clone();
+        put(&mut table.bodies, field, value);
+        add(tables, version, name, table);
     }
 }
 

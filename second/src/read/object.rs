@@ -1,18 +1,22 @@
-//! Objects (01, 'Object'): id char, specs, flow frame flag, and from 1.2 a description string.
+//! Objects (01, 'Object'; 02, R-1): id char, specs, flow frame flag, and from 1.2 a description string.
 
 use super::field::{refusal, Source, Taken};
 use super::{paint, style};
-use crate::model::{Bitmap, BitmapLatex, Chars, Group, Latex, Object, Path, Point, Segment, Text};
-use crate::version::{Version, DEEPEST_GROUP, OBJECT_LETTERS, PATH_LETTERS, SEGMENT_LETTERS};
+use crate::model::{
+    Bitmap, BitmapLatex, Chars, Group, Latex, Object, Outline, Path, Point, Segment, Text, TextPath,
+    TextStyle,
+};
+use crate::version::{Version, DEEPEST_GROUP, PATH_LETTERS, SEGMENT_LETTERS};
 
 /// An object inside a group of depth `around`.
 fn object(source: &mut Source, version: Version, around: u32) -> Taken<Object> {
     let offset = source.at();
-    match source.letter(OBJECT_LETTERS)? {
+    match source.letter(version.object_letters())? {
         b'G' if around == DEEPEST_GROUP => Err(refusal(10, offset)),
         b'G' => Ok(Object::Group(group(source, version, around + 1)?)),
         b'P' => Ok(Object::Path(path(source, version)?)),
         b'T' => Ok(Object::Text(text(source, version)?)),
+        b'X' => Ok(Object::TextPath(text_path(source, version)?)),
         _ => Ok(Object::Bitmap(bitmap(source, version)?)),
     }
 }
@@ -39,9 +43,17 @@ fn ending(source: &mut Source, version: Version) -> Taken<Chars> {
 }
 
 fn path(source: &mut Source, version: Version) -> Taken<Path> {
-    let line = paint::paint(source, version)?;
-    let fill = paint::paint(source, version)?;
-    let style = style::line_style(source, version)?;
+    Ok(Path {
+        line: paint::paint(source, version)?,
+        fill: paint::paint(source, version)?,
+        style: style::line_style(source, version)?,
+        outline: outline(source, version)?,
+        description: ending(source, version)?,
+    })
+}
+
+/// Char `O` or `C`, integer n at least 1, and n segments; from 1.3 with the start point before them.
+fn outline(source: &mut Source, version: Version) -> Taken<Outline> {
     let closed = source.letter(PATH_LETTERS)? == b'C';
     let n = source.count(1)?;
     let (start, segments) = if version.has_path_start() {
@@ -50,8 +62,7 @@ fn path(source: &mut Source, version: Version) -> Taken<Path> {
     } else {
         segments_with_starts(source, n)?
     };
-    let description = ending(source, version)?;
-    Ok(Path { line, fill, style, closed, start, segments, description })
+    Ok(Outline { closed, start, segments })
 }
 
 /// From 1.3 a segment is a char and its points.
@@ -94,6 +105,26 @@ fn points(source: &mut Source, letter: u8) -> Taken<Segment> {
 
 fn text(source: &mut Source, version: Version) -> Taken<Text> {
     Ok(Text {
+        style: text_style(source)?,
+        paint: paint::paint(source, version)?,
+        text: source.string(1)?,
+        description: ending(source, version)?,
+    })
+}
+
+/// Text paint, style and text as a text has them, then an outline.
+fn text_path(source: &mut Source, version: Version) -> Taken<TextPath> {
+    let paint = paint::paint(source, version)?;
+    let style = text_style(source)?;
+    let text = source.string(1)?;
+    let outline = outline(source, version)?;
+    let description = ending(source, version)?;
+    Ok(TextPath { text: Text { style, paint, text, description }, outline })
+}
+
+/// Family, shape, series, size, transformation and what the flag of the LaTeX fields begins.
+fn text_style(source: &mut Source) -> Taken<TextStyle> {
+    Ok(TextStyle {
         family: source.string(0)?,
         shape: source.byte(0, 1)?,
         series: source.byte(0, 1)?,
@@ -101,9 +132,6 @@ fn text(source: &mut Source, version: Version) -> Taken<Text> {
         size: source.integer_within(0, i32::MAX)?,
         transformation: source.transformation()?,
         latex: latex(source)?,
-        paint: paint::paint(source, version)?,
-        text: source.string(1)?,
-        description: ending(source, version)?,
     })
 }
 

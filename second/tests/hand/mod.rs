@@ -91,6 +91,36 @@ pub const TEXT_1_2: [u32; 58] = [
     1, 0, 0, // group
 ];
 
+/// Version 1.5, a text along a path of two segments, with LaTeX fields; 200 bytes.
+pub fn text_path_1_5() -> Vec<u8> {
+    let mut hand = Hand::head("1.5").byte(0).chars("G").integer(1); // 0, 16, 17, 19
+    hand = hand.chars("X").chars("Y").float(0.5).float(1.0); // 23, text paint 25; 27, 31
+    hand = hand.string("f").byte(0).byte(1).integer(9).transformation(); // 35, char 39; 41, 42, 43, 47 to 94
+    hand = hand.byte(1).string("").string("").string("").string("z"); // 95; 96, 100, 104, 108, char 112
+    hand = hand.byte(0).byte(2).string("A"); // 114, 115, 116, char 120
+    hand = hand.string("go"); // 122, 126, 128
+    hand = hand.chars("O").integer(2).double(1.0).double(2.0); // 130, 132, 136, 144
+    hand = hand.chars("L").double(3.0).double(4.0); // 152; 154, 162
+    hand = hand.chars("M").double(5.0).double(6.0); // 170; 172, 180
+    hand.byte(0).string("m").byte(0).string("").0 // 188, 189, char 193; 195, 196
+}
+
+/// The words of that text: head 2, body 52, group 3.
+#[rustfmt::skip]
+pub const TEXT_PATH_1_5: [u32; 57] = [
+    5, 0, // head
+    0x59, 0x3F00_0000, 0x3F80_0000, // text paint: 2 to 4
+    1, 0x66, 0, 1, 9, // family, shape, series, size: 5 to 9
+    0x3FF0_0000, 0, 0, 0, 0, 0, 0x3FF0_0000, 0, 0, 0, 0, 0, // transformation: 10 to 21
+    1, 0, 0, 0, 1, 0x7A, 0, 2, 1, 0x41, // flag 22, strings, bytes, alternative 30 and 31
+    2, 0x67, 0x6F, // text: 32 to 34
+    0x4F, 2, 0x3FF0_0000, 0, 0x4000_0000, 0, // O, n, start point: 35 to 40
+    0x4C, 0x4008_0000, 0, 0x4010_0000, 0, // L: 41 to 45
+    0x4D, 0x4014_0000, 0, 0x4018_0000, 0, // M: 46 to 50
+    0, 1, 0x6D, // flow flag, description
+    1, 0, 0, // group
+];
+
 /// Version 1.1, one bitmap with the two strings, inside two groups; the inner one ends first.
 pub fn bitmap_1_1() -> Vec<u8> {
     let mut hand = Hand::head("1.1").byte(0).chars("G").integer(2); // 0, 16, 17, 19

@@ -59,6 +59,10 @@ outline3 c = style ++ byte 0 ∷ byte 0 ∷ byte 0 ∷ char c ∷ []
 abbrev pub text : List Item
 text = char "T" ∷ string "" ∷ byte 0 ∷ byte 0 ∷ int 0 ∷ zeros
 
+-- A text along a path up to its O or C, at 92: paint 25, family 27, size 33, LaTeX flag 85, text 86; the count is at 94, the start at 98.
+abbrev pub textPath : List Item
+textPath = char "X" ∷ char "T" ∷ string "" ∷ byte 0 ∷ byte 0 ∷ int 0 ∷ zeros ++ flag 0 ∷ string "a" ∷ []
+
 -- All settings up to the tool, at 20; then the normal size is at 24 and the paper at 28.
 abbrev pub flags : List Item
 flags = byte 1 ∷ flag 0 ∷ flag 1 ∷ flag 0 ∷ []

@@ -73,13 +73,15 @@ openValue =
         mid = [];
         end = record { id = 1; size = 0x4000_000A; double = 0; repeat = 0; reversed = 1; angle = none; paint = transparent; overlay = 0; offset = none; repeatOffset = none } ∷ [];
       };
-      openOrClosed = code "O";
-      start = at 0 0;
-      segments = curve (at 0x11_0000_0021 0x12_0000_0022) (at 0x13_0000_0023 0x14_0000_0024) (at 0x15_0000_0025 0x16_0000_0026) (at 0x7FF0_0000_0000_0001 0x17_0000_0027)
-          ∷ line (at 0x7FF0_0000_0000_0001 0x17_0000_0027) (at 0x18_0000_0028 0x19_0000_0029)
-          ∷ move (at 0x18_0000_0028 0x19_0000_0029) (at 0x1A_0000_002A 0x8000_0000_0000_0000)
-          ∷ line (at 0x1A_0000_002A 0x8000_0000_0000_0000) (at 0x1B_0000_002B 0x1C_0000_002C)
-          ∷ [];
+      outline = record {
+        openOrClosed = code "O";
+        start = at 0 0;
+        segments = curve (at 0x11_0000_0021 0x12_0000_0022) (at 0x13_0000_0023 0x14_0000_0024) (at 0x15_0000_0025 0x16_0000_0026) (at 0x7FF0_0000_0000_0001 0x17_0000_0027)
+            ∷ line (at 0x7FF0_0000_0000_0001 0x17_0000_0027) (at 0x18_0000_0028 0x19_0000_0029)
+            ∷ move (at 0x18_0000_0028 0x19_0000_0029) (at 0x1A_0000_002A 0x8000_0000_0000_0000)
+            ∷ line (at 0x1A_0000_002A 0x8000_0000_0000_0000) (at 0x1B_0000_002B 0x1C_0000_002C)
+            ∷ [];
+      };
     }
 
 -- ---- row 5: a bitmap without LaTeX strings
@@ -110,12 +112,14 @@ plainFields =
 abbrev plainValue : Text
 plainValue =
     record {
-      family = codes "Ari";
-      shape = 1;
-      series = 0;
-      size = 12;
-      transformation = 0x51_0000_0061 ∷ 0x52_0000_0062 ∷ 0x53_0000_0063 ∷ 0x54_0000_0064 ∷ 0x55_0000_0065 ∷ 0x56_0000_0066 ∷ [];
-      latex = none;
+      style = record {
+        family = codes "Ari";
+        shape = 1;
+        series = 0;
+        size = 12;
+        transformation = 0x51_0000_0061 ∷ 0x52_0000_0062 ∷ 0x53_0000_0063 ∷ 0x54_0000_0064 ∷ 0x55_0000_0065 ∷ 0x56_0000_0066 ∷ [];
+        latex = none;
+      };
       paint = plain transparent;
       text = codes "Hi!!";
     }
@@ -139,9 +143,11 @@ closedValue =
       linePaint = plain transparent;
       fillPaint = linear (rgb 0x3E80_0001 0x3E80_0002 0x3E80_0003 0x3E80_0004) (cmyk 0x3E80_0005 0x3E80_0006 0x3E80_0007 0x3E80_0008 0x3E80_0009) 7;
       style = record { width = 0x4000_000B; dashes = []; dashOffset = 0; cap = 2; join = 1; mitreLimit = 0; winding = 0; start = []; mid = []; end = [] };
-      openOrClosed = code "C";
-      start = at 0 0;
-      segments = line (at 0x71_0000_0081 0x72_0000_0082) (at 0x73_0000_0083 0x74_0000_0084) ∷ [];
+      outline = record {
+        openOrClosed = code "C";
+        start = at 0 0;
+        segments = line (at 0x71_0000_0081 0x72_0000_0082) (at 0x73_0000_0083 0x74_0000_0084) ∷ [];
+      };
     }
 
 -- ---- row 8: a bitmap with its LaTeX strings
@@ -174,12 +180,14 @@ latexFields =
 abbrev latexValue : Text
 latexValue =
     record {
-      family = [];
-      shape = 0;
-      series = 1;
-      size = 0x7FFF_FFFF;
-      transformation = 0xB1_0000_00C1 ∷ 0xB2_0000_00C2 ∷ 0xB3_0000_00C3 ∷ 0xB4_0000_00C4 ∷ 0xB5_0000_00C5 ∷ 0xB6_0000_00C6 ∷ [];
-      latex = some (record { family = codes "f"; series = codes "se"; shape = codes "sha"; size = codes "size"; horizontal = 2; vertical = 3; alternative = [] });
+      style = record {
+        family = [];
+        shape = 0;
+        series = 1;
+        size = 0x7FFF_FFFF;
+        transformation = 0xB1_0000_00C1 ∷ 0xB2_0000_00C2 ∷ 0xB3_0000_00C3 ∷ 0xB4_0000_00C4 ∷ 0xB5_0000_00C5 ∷ 0xB6_0000_00C6 ∷ [];
+        latex = some (record { family = codes "f"; series = codes "se"; shape = codes "sha"; size = codes "size"; horizontal = 2; vertical = 3; alternative = [] });
+      };
       paint = plain (cmyk 0x3D00_0001 0x3D00_0002 0x3D00_0003 0x3D00_0004 0x3D00_0005);
       text = codes "z";
     }

@@ -62,11 +62,13 @@ firstValue =
             ∷ record { id = 2; size = 0x4000_0014; double = 0; repeat = 2; reversed = 0; angle = some 0x4000_0015; paint = cmyk 0x3F00_000E 0x3F00_000F 0x3F00_0010 0x3F00_0011 0x3F00_0012; overlay = 1; offset = none; repeatOffset = none }
             ∷ [];
       };
-      openOrClosed = code "C";
-      start = at 0 0;
-      segments = move (at 0x8000_0000_0000_0011 0x12_0000_0022) (at 0x7FF8_0000_0000_0023 0xFFF8_0000_0000_0024)
-          ∷ curve (at 0x7FF8_0000_0000_0023 0xFFF8_0000_0000_0024) (at 0x15_0000_0025 0x16_0000_0026) (at 0x17_0000_0027 0x18_0000_0028) (at 0x19_0000_0029 0x1A_0000_002A)
-          ∷ [];
+      outline = record {
+        openOrClosed = code "C";
+        start = at 0 0;
+        segments = move (at 0x8000_0000_0000_0011 0x12_0000_0022) (at 0x7FF8_0000_0000_0023 0xFFF8_0000_0000_0024)
+            ∷ curve (at 0x7FF8_0000_0000_0023 0xFFF8_0000_0000_0024) (at 0x15_0000_0025 0x16_0000_0026) (at 0x17_0000_0027 0x18_0000_0028) (at 0x19_0000_0029 0x1A_0000_002A)
+            ∷ [];
+      };
     }
 
 -- ---- row 4: a path with four start markers, two mid markers and one end marker
@@ -117,9 +119,11 @@ secondValue =
         mid = mark 7 0x4100_0007 2 0 none 0 ∷ mark 8 0x4100_0008 3 1 (some 0x4100_0009) 1 ∷ [];
         end = mark 9 0x4100_000A 1 0 (some 0x4100_000B) 0 ∷ [];
       };
-      openOrClosed = code "O";
-      start = at 0 0;
-      segments = move (at 0x31_0000_0041 0x32_0000_0042) (at 0x33_0000_0043 0x34_0000_0044) ∷ [];
+      outline = record {
+        openOrClosed = code "O";
+        start = at 0 0;
+        segments = move (at 0x31_0000_0041 0x32_0000_0042) (at 0x33_0000_0043 0x34_0000_0044) ∷ [];
+      };
     }
 
 -- ---- row 5: a text with an alternative, painted with a gradient
@@ -136,12 +140,14 @@ textFields =
 abbrev textValue : Text
 textValue =
     record {
-      family = codes "Serif";
-      shape = 0;
-      series = 0;
-      size = 0;
-      transformation = 0x51_0000_0061 ∷ 0x52_0000_0062 ∷ 0x53_0000_0063 ∷ 0x54_0000_0064 ∷ 0x55_0000_0065 ∷ 0x56_0000_0066 ∷ [];
-      latex = some (record { family = codes "rm"; series = []; shape = codes "it"; size = codes "Huge"; horizontal = 0; vertical = 1; alternative = codes "$x$" });
+      style = record {
+        family = codes "Serif";
+        shape = 0;
+        series = 0;
+        size = 0;
+        transformation = 0x51_0000_0061 ∷ 0x52_0000_0062 ∷ 0x53_0000_0063 ∷ 0x54_0000_0064 ∷ 0x55_0000_0065 ∷ 0x56_0000_0066 ∷ [];
+        latex = some (record { family = codes "rm"; series = []; shape = codes "it"; size = codes "Huge"; horizontal = 0; vertical = 1; alternative = codes "$x$" });
+      };
       paint = linear (cmyk 0x3D00_0001 0x3D00_0002 0x3D00_0003 0x3D00_0004 0x3D00_0005) transparent 3;
       text = codes "x";
     }

@@ -63,12 +63,14 @@ latexFields =
 abbrev latexValue : Text
 latexValue =
     record {
-      family = codes "Mono";
-      shape = 1;
-      series = 1;
-      size = 9;
-      transformation = 0x31_0000_0041 ∷ 0x32_0000_0042 ∷ 0x33_0000_0043 ∷ 0x34_0000_0044 ∷ 0x35_0000_0045 ∷ 0x36_0000_0046 ∷ [];
-      latex = some (record { family = codes "tt"; series = codes "b"; shape = []; size = codes "large"; horizontal = 1; vertical = 2; alternative = codes "\\LaTeX" });
+      style = record {
+        family = codes "Mono";
+        shape = 1;
+        series = 1;
+        size = 9;
+        transformation = 0x31_0000_0041 ∷ 0x32_0000_0042 ∷ 0x33_0000_0043 ∷ 0x34_0000_0044 ∷ 0x35_0000_0045 ∷ 0x36_0000_0046 ∷ [];
+        latex = some (record { family = codes "tt"; series = codes "b"; shape = []; size = codes "large"; horizontal = 1; vertical = 2; alternative = codes "\\LaTeX" });
+      };
       paint = plain (rgb 0x3F00_0000 0x3E80_0000 0x3F40_0000 0x3F80_0000);
       text = codes "Latex";
     }
@@ -104,11 +106,13 @@ markedValue =
         mid = record { id = 20; size = 0x4000_0005; double = 0; repeat = 2; reversed = 1; angle = none; paint = cmyk 0x3F00_0001 0x3F00_0002 0x3F00_0003 0x3F00_0004 0x3F00_0005; overlay = 0; offset = none; repeatOffset = none } ∷ [];
         end = [];
       };
-      openOrClosed = code "O";
-      start = at 0 0;
-      segments = line (at 0x51_0000_0061 0x52_0000_0062) (at 0x53_0000_0063 0x54_0000_0064)
-          ∷ move (at 0x53_0000_0063 0x54_0000_0064) (at 0x55_0000_0065 0x56_0000_0066)
-          ∷ [];
+      outline = record {
+        openOrClosed = code "O";
+        start = at 0 0;
+        segments = line (at 0x51_0000_0061 0x52_0000_0062) (at 0x53_0000_0063 0x54_0000_0064)
+            ∷ move (at 0x53_0000_0063 0x54_0000_0064) (at 0x55_0000_0065 0x56_0000_0066)
+            ∷ [];
+      };
     }
 
 -- ---- row 7: a text without LaTeX fields, with a gradient and an empty description
@@ -123,12 +127,14 @@ plainFields =
 abbrev plainValue : Text
 plainValue =
     record {
-      family = codes "Sans";
-      shape = 0;
-      series = 0;
-      size = 8;
-      transformation = 0x71_0000_0081 ∷ 0x72_0000_0082 ∷ 0x73_0000_0083 ∷ 0x74_0000_0084 ∷ 0x75_0000_0085 ∷ 0x76_0000_0086 ∷ [];
-      latex = none;
+      style = record {
+        family = codes "Sans";
+        shape = 0;
+        series = 0;
+        size = 8;
+        transformation = 0x71_0000_0081 ∷ 0x72_0000_0082 ∷ 0x73_0000_0083 ∷ 0x74_0000_0084 ∷ 0x75_0000_0085 ∷ 0x76_0000_0086 ∷ [];
+        latex = none;
+      };
       paint = linear transparent (rgb 0x3D80_0000 0x3E40_0000 0x0000_0000 0x3EA0_0000) 6;
       text = codes "plain";
     }

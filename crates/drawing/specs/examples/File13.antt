@@ -81,13 +81,15 @@ openValue =
         mid = [];
         end = record { id = 21; size = 0x4000_0009; double = 0; repeat = 1; reversed = 1; angle = some 0x7FC0_000A; paint = transparent; overlay = 0; offset = none; repeatOffset = none } ∷ [];
       };
-      openOrClosed = code "O";
-      start = at 0x11_0000_0021 0x7FF8_0000_0000_0022;
-      segments = curve (at 0 0) (at 0x13_0000_0023 0x14_0000_0024) (at 0x15_0000_0025 0x16_0000_0026) (at 0x17_0000_0027 0x18_0000_0028)
-          ∷ move (at 0 0) (at 0x19_0000_0029 0x1A_0000_002A)
-          ∷ line (at 0 0) (at 0x1B_0000_002B 0x1C_0000_002C)
-          ∷ curve (at 0 0) (at 0x1D_0000_002D 0x1E_0000_002E) (at 0x1F_0000_002F 0x20_0000_0030) (at 0x21_0000_0031 0x22_0000_0032)
-          ∷ [];
+      outline = record {
+        openOrClosed = code "O";
+        start = at 0x11_0000_0021 0x7FF8_0000_0000_0022;
+        segments = curve (at 0 0) (at 0x13_0000_0023 0x14_0000_0024) (at 0x15_0000_0025 0x16_0000_0026) (at 0x17_0000_0027 0x18_0000_0028)
+            ∷ move (at 0 0) (at 0x19_0000_0029 0x1A_0000_002A)
+            ∷ line (at 0 0) (at 0x1B_0000_002B 0x1C_0000_002C)
+            ∷ curve (at 0 0) (at 0x1D_0000_002D 0x1E_0000_002E) (at 0x1F_0000_002F 0x20_0000_0030) (at 0x21_0000_0031 0x22_0000_0032)
+            ∷ [];
+      };
     }
 
 -- ---- row 4: a text with LaTeX fields and an empty alternative
@@ -102,12 +104,14 @@ textFields =
 abbrev textValue : Text
 textValue =
     record {
-      family = codes "Dialog";
-      shape = 0;
-      series = 1;
-      size = 11;
-      transformation = 0x51_0000_0061 ∷ 0x52_0000_0062 ∷ 0x53_0000_0063 ∷ 0x54_0000_0064 ∷ 0x55_0000_0065 ∷ 0x56_0000_0066 ∷ [];
-      latex = some (record { family = codes "sf"; series = codes "m"; shape = codes "n"; size = []; horizontal = 2; vertical = 1; alternative = [] });
+      style = record {
+        family = codes "Dialog";
+        shape = 0;
+        series = 1;
+        size = 11;
+        transformation = 0x51_0000_0061 ∷ 0x52_0000_0062 ∷ 0x53_0000_0063 ∷ 0x54_0000_0064 ∷ 0x55_0000_0065 ∷ 0x56_0000_0066 ∷ [];
+        latex = some (record { family = codes "sf"; series = codes "m"; shape = codes "n"; size = []; horizontal = 2; vertical = 1; alternative = [] });
+      };
       paint = radial transparent transparent 0;
       text = codes "words";
     }
@@ -143,9 +147,11 @@ closedValue =
       linePaint = linear (cmyk 0x3D00_0001 0x3D00_0002 0x3D00_0003 0x3D00_0004 0x3D00_0005) transparent 2;
       fillPaint = plain transparent;
       style = record { width = 0x4000_000B; dashes = []; dashOffset = 0; cap = 0; join = 2; mitreLimit = 0; winding = 0; start = []; mid = []; end = [] };
-      openOrClosed = code "C";
-      start = at 0x91_0000_00A1 0x92_0000_00A2;
-      segments = line (at 0 0) (at 0x93_0000_00A3 0x94_0000_00A4) ∷ [];
+      outline = record {
+        openOrClosed = code "C";
+        start = at 0x91_0000_00A1 0x92_0000_00A2;
+        segments = line (at 0 0) (at 0x93_0000_00A3 0x94_0000_00A4) ∷ [];
+      };
     }
 
 -- ---- the file: groups are rows 0, 1, 2 and 6; row 6 comes behind the end of row 1

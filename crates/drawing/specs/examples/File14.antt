@@ -76,9 +76,11 @@ markedValue =
             ∷ record { id = 26; size = 0x4000_000F; double = 0; repeat = 1; reversed = 0; angle = none; paint = transparent; overlay = 0; offset = some 0x4000_0010; repeatOffset = none }
             ∷ [];
       };
-      openOrClosed = code "O";
-      start = at 0x11_0000_0021 0x12_0000_0022;
-      segments = move (at 0 0) (at 0x13_0000_0023 0x14_0000_0024) ∷ [];
+      outline = record {
+        openOrClosed = code "O";
+        start = at 0x11_0000_0021 0x12_0000_0022;
+        segments = move (at 0 0) (at 0x13_0000_0023 0x14_0000_0024) ∷ [];
+      };
     }
 
 -- ---- row 4: a closed path with a linear and a radial gradient
@@ -100,12 +102,14 @@ gradientValue =
       linePaint = linear (grey 0x3EC0_0000 0x3F20_0000) (hsb 0x8000_0000 0x3F60_0000 0x3D80_0000 0x3E40_0000) 7;
       fillPaint = radial (hsb 0x0000_0000 0x3EA0_0000 0x3EE0_0000 0x3F10_0000) (grey 0x3F30_0000 0x3F50_0000) 5;
       style = record { width = 0x4100_0001; dashes = 0x4100_0002 ∷ 0x4100_0003 ∷ []; dashOffset = 0x4100_0004; cap = 2; join = 1; mitreLimit = 0; winding = 1; start = []; mid = []; end = [] };
-      openOrClosed = code "C";
-      start = at 0x31_0000_0041 0x32_0000_0042;
-      segments = line (at 0 0) (at 0x33_0000_0043 0x34_0000_0044)
-          ∷ curve (at 0 0) (at 0x35_0000_0045 0x36_0000_0046) (at 0x37_0000_0047 0x38_0000_0048) (at 0x39_0000_0049 0x3A_0000_004A)
-          ∷ line (at 0 0) (at 0x3B_0000_004B 0x3C_0000_004C)
-          ∷ [];
+      outline = record {
+        openOrClosed = code "C";
+        start = at 0x31_0000_0041 0x32_0000_0042;
+        segments = line (at 0 0) (at 0x33_0000_0043 0x34_0000_0044)
+            ∷ curve (at 0 0) (at 0x35_0000_0045 0x36_0000_0046) (at 0x37_0000_0047 0x38_0000_0048) (at 0x39_0000_0049 0x3A_0000_004A)
+            ∷ line (at 0 0) (at 0x3B_0000_004B 0x3C_0000_004C)
+            ∷ [];
+      };
     }
 
 -- ---- row 5: a text with an alternative
@@ -120,12 +124,14 @@ textFields =
 abbrev textValue : Text
 textValue =
     record {
-      family = codes "Times";
-      shape = 1;
-      series = 0;
-      size = 10;
-      transformation = 0x51_0000_0061 ∷ 0x52_0000_0062 ∷ 0x53_0000_0063 ∷ 0x54_0000_0064 ∷ 0x55_0000_0065 ∷ 0x56_0000_0066 ∷ [];
-      latex = some (record { family = codes "p"; series = codes "qq"; shape = codes "rrr"; size = codes "ssss"; horizontal = 1; vertical = 3; alternative = codes "$y$" });
+      style = record {
+        family = codes "Times";
+        shape = 1;
+        series = 0;
+        size = 10;
+        transformation = 0x51_0000_0061 ∷ 0x52_0000_0062 ∷ 0x53_0000_0063 ∷ 0x54_0000_0064 ∷ 0x55_0000_0065 ∷ 0x56_0000_0066 ∷ [];
+        latex = some (record { family = codes "p"; series = codes "qq"; shape = codes "rrr"; size = codes "ssss"; horizontal = 1; vertical = 3; alternative = codes "$y$" });
+      };
       paint = plain (grey 0x3F70_0000 0x0000_0001);
       text = codes "why";
     }

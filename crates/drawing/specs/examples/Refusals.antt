@@ -8,7 +8,7 @@ use lib.Ieee.{le, lt, ofInt, ofBits}
 use Rattle.format.specs.FloatRange.{fromZeroTo, fromZeroBelow}
 use Rattle.drawing.specs.Reading.{Reading, drawing, refusal, drawingOf}
 use Rattle.drawing.specs.examples.Bytes.{byte, flag, int, float, double, char, string, coded, floats}
-use Rattle.drawing.specs.examples.Cases.{Case, times, raw, file, object, bitmap, paints, style, text, flags}
+use Rattle.drawing.specs.examples.Cases.{Case, times, raw, file, object, bitmap, paints, style, text, textPath, flags}
 use Rattle.drawing.specs.examples.PathCases.{styles, segments}
 
 -- ---- the head
@@ -31,7 +31,7 @@ heads =
     ∷ raw (char "J" ∷ char "D" ∷ char "R" ∷ int 3 ∷ char "2" ∷ char "." ∷ byte 0 ∷ []) 2 10
     ∷ raw (char "J" ∷ char "D" ∷ char "R" ∷ int 3 ∷ char "2" ∷ char "." ∷ char "0" ∷ []) 4 10
     ∷ raw (char "J" ∷ char "D" ∷ char "R" ∷ int 3 ∷ char "1" ∷ char "," ∷ char "0" ∷ []) 4 10
-    ∷ file "5" (byte 0 ∷ []) 4 10
+    ∷ file "6" (byte 0 ∷ []) 4 10
     ∷ file "/" (byte 0 ∷ []) 4 10
     -- the settings: a flag below 1.3, a byte from 1.3 on; 200 is -56
     ∷ file "0" [] 2 16
@@ -192,10 +192,36 @@ texts =
     ∷ object "4" (text ++ flag 0 ∷ char "T" ∷ int 1 ∷ []) 2 90
     ∷ []
 
+-- ---- texts along paths
+
+abbrev textPaths : List Case
+textPaths =
+    -- from 1.5 on
+    object "4" (char "X" ∷ []) 7 23
+    ∷ object "0" (textPath ++ []) 7 23
+    ∷ object "5" (char "X" ∷ []) 2 25
+    -- the paint comes first, and is no style's
+    ∷ object "5" (char "X" ∷ char "P" ∷ []) 7 25
+    ∷ object "5" (char "X" ∷ char "S" ∷ float 0x43B4_0000 ∷ []) 9 27
+    ∷ object "5" (char "X" ∷ char "T" ∷ int 0xFFFF_FFFF ∷ []) 8 27
+    ∷ object "5" (char "X" ∷ char "T" ∷ string "" ∷ byte 2 ∷ []) 6 31
+    ∷ object "5" (char "X" ∷ char "T" ∷ string "" ∷ byte 0 ∷ byte 0 ∷ int 0x8000_0000 ∷ []) 6 33
+    -- the outline, and cuts in it
+    ∷ object "5" (textPath ++ []) 2 92
+    ∷ object "5" (textPath ++ char "X" ∷ []) 7 92
+    ∷ object "5" (textPath ++ char "C" ∷ int 0 ∷ []) 8 94
+    ∷ object "5" (textPath ++ char "O" ∷ int 1 ∷ double 0 ∷ int 0 ∷ []) 2 106
+    ∷ object "5" (textPath ++ char "O" ∷ int 1 ∷ double 0 ∷ double 0 ∷ char "P" ∷ []) 7 114
+    ∷ object "5" (textPath ++ char "O" ∷ int 1 ∷ double 0 ∷ double 0 ∷ char "L" ∷ double 0 ∷ byte 1 ∷ []) 2 124
+    ∷ object "5" (textPath ++ char "C" ∷ int 2 ∷ double 0 ∷ double 0 ∷ char "M" ∷ double 0 ∷ double 0 ∷ []) 2 132
+    ∷ object "5" (textPath ++ char "C" ∷ int 1 ∷ double 0 ∷ double 0 ∷ char "M" ∷ double 0 ∷ double 0 ∷ flag 1 ∷ []) 11 132
+    ∷ object "5" (textPath ++ char "C" ∷ int 1 ∷ double 0 ∷ double 0 ∷ char "M" ∷ double 0 ∷ double 0 ∷ flag 0 ∷ string "" ∷ flag 0 ∷ string "" ∷ []) 0 142
+    ∷ []
+
 -- ---- the statement
 
 abbrev cases : List Case
-cases = heads ++ objects ++ paintCases ++ texts ++ styles ++ segments
+cases = heads ++ objects ++ paintCases ++ texts ++ textPaths ++ styles ++ segments
 
 -- A refusal's number and offset; 0 and the file's length for a drawing.
 abbrev answered : List ℕ → Reading → ℕ × ℕ

@@ -57,6 +57,7 @@ bad =
     ∷ row 4 2
     ∷ row 8 3
     ∷ row 8 5
+    ∷ row 8 6
     ∷ row 1 1
     ∷ row 5 2
     ∷ row 9 1
@@ -68,6 +69,7 @@ bad =
     ∷ row 11 17
     -- version, settings, name length, char, flag, flow flag, count
     ∷ body 0 5
+    ∷ body 0 6
     ∷ body 0 2
     ∷ body 1 2
     ∷ body 2 0

@@ -1,5 +1,5 @@
 -- Made by tools/ways from crates/from_file_objects.
-use Rattle.ways.specs.LayoutLaws.{laid, cased, valued-laid, _⨾_}
+use Rattle.ways.specs.LayoutLaws.{laid, cased, _⨾_}
 use borrow.Author.Needs.{needs}
 use Rattle.from_table_objects.proofs.path.path.Statement.{statement}
 use Rattle.from_table_objects.proofs.path.path.Tie as tie
@@ -13,9 +13,6 @@ paint-requires-2 c κs = search needs
 line-style-requires : tie.Need-line-style-requires
 line-style-requires c κs = search needs
 
-closed-letter-requires : tie.Need-closed-letter-requires
-closed-letter-requires c κs = search needs
-
 outline-requires : tie.Need-outline-requires
 outline-requires c κs = search needs
 
@@ -25,11 +22,10 @@ same-length c = search needs
 returns : tie.Need-returns
 returns c =
     let at-outline = c .before .before in
-    let at-closed-letter = at-outline .before .before .before .before .before in
-    let at-line-style = at-closed-letter .before .before .before .before in
+    let at-line-style = at-outline .before .before .before .before in
     let at-paint2 = at-line-style .before .before .before .before in
     let at-paint = at-paint2 .before .before .before .before in
-    laid (cased (at-paint .paint .ensures ⨾ at-paint2 .paint2 .ensures ⨾ at-line-style .line-style .ensures ⨾ valued-laid (at-closed-letter .closed-letter .ensures) ⨾ at-outline .outline .ensures))
+    laid (cased (at-paint .paint .ensures ⨾ at-paint2 .paint2 .ensures ⨾ at-line-style .line-style .ensures ⨾ at-outline .outline .ensures))
 
 pub path-spec : {M : Type 1} → statement M
 path-spec =
@@ -38,7 +34,6 @@ path-spec =
     paint-requires
     paint-requires-2
     line-style-requires
-    closed-letter-requires
     outline-requires
     same-length
     returns)

@@ -20,14 +20,14 @@ returns : tie.Need-returns
 returns c =
     let at-check = c .before .before in
     let at-args = at-check .before .before .before in
-    sym (no-table noPaint (λ d. paintValue) (Refused 16) (at-check .check .ensures) (at-args .args .row) (c .if1 .taken))
+    sym (no-table (λ d. noPaint) (λ d. paintValue) (Refused 16) (at-check .check .ensures) (at-args .args .row) (c .if1 .taken))
 
 returns-2 : tie.Need-returns-2
 returns-2 c =
     let at-before = c .before in
     let judged = at-before .before in
     let called = judged .before .before in
-    no-such-row noPaint (λ d. paintValue) (Refused 16) (called .check .ensures) (called .before .before .before .args .row) (judged .if1 .left) (c .if2 .taken) (λ d. refl)
+    no-such-row (λ d. noPaint) (λ d. paintValue) (Refused 16) (called .check .ensures) (called .before .before .before .args .row) (judged .if1 .left) (c .if2 .taken) (λ d. refl)
 
 returns-3 : tie.Need-returns-3
 returns-3 c =
@@ -37,7 +37,7 @@ returns-3 c =
     let start = called .before .before .before in
     let below = known-below w32 (start .args .bodies .now) (called .before .shared-slice-known2 .given) in
     let row = asked (called .check .ensures) (start .args .row) (judged .if1 .left) below (omega (arith, c .if2 .left)) in
-    sym (asked-part noPaint (λ d. paintValue) (Refused 16) row)
+    sym (asked-part (λ d. noPaint) (λ d. paintValue) (Refused 16) row)
 
 pub no-part-spec : {M : Type 1} → statement M
 no-part-spec = tie.close (tie.spec (λ c κs. search needs) returns returns-2 returns-3)

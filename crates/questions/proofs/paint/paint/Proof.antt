@@ -23,7 +23,7 @@ returns c =
     let at-check = c .before .before in
     let at-shared-slice-known2 = at-check .before in
     let at-args = at-shared-slice-known2 .before .before in
-    paints (known-below w32 (at-args .args .words .now) (at-shared-slice-known2 .shared-slice-known2 .given)) (sym (no-table (paintPart (at-args .args .which)) (λ d. paintValue) (Refused 16) (at-check .check .ensures) (at-args .args .row) (c .if1 .taken)))
+    paints (known-below w32 (at-args .args .words .now) (at-shared-slice-known2 .shared-slice-known2 .given)) (sym (no-table (λ d. paintPart (at-args .args .which)) (λ d. paintValue) (Refused 16) (at-check .check .ensures) (at-args .args .row) (c .if1 .taken)))
 
 returns-2 : tie.Need-returns-2
 returns-2 c =
@@ -31,7 +31,7 @@ returns-2 c =
     let at-check = at-if1 .before .before in
     let at-shared-slice-known2 = at-check .before in
     let at-args = at-shared-slice-known2 .before .before in
-    paints (known-below w32 (at-args .args .words .now) (at-shared-slice-known2 .shared-slice-known2 .given)) (no-such-row (paintPart (at-args .args .which)) (λ d. paintValue) (Refused 16) (at-check .check .ensures) (at-args .args .row) (at-if1 .if1 .left) (c .if2 .taken) (λ d. refl))
+    paints (known-below w32 (at-args .args .words .now) (at-shared-slice-known2 .shared-slice-known2 .given)) (no-such-row (λ d. paintPart (at-args .args .which)) (λ d. paintValue) (Refused 16) (at-check .check .ensures) (at-args .args .row) (at-if1 .if1 .left) (c .if2 .taken) (λ d. refl))
 
 shared-slice-read-version : tie.Need-shared-slice-read-version
 shared-slice-read-version c =
@@ -59,7 +59,7 @@ returns-3 c =
     let at-shared-slice-known2 = at-check .before in
     let at-args = at-shared-slice-known2 .before .before in
     let it = (asked (at-check .check .ensures) (at-args .args .row) (at-if1 .if1 .left) (known-below w32 (at-args .args .words .now) (at-shared-slice-known2 .shared-slice-known2 .given)) (omega (arith, at-if2 .if2 .left))) in
-    paints (known-below w32 (at-args .args .words .now) (at-shared-slice-known2 .shared-slice-known2 .given)) (c .paint-of .ensures (it .object) (it .body) ∙ sym (asked-part (paintPart (at-args .args .which)) (λ d. paintValue) (Refused 16) it))
+    paints (known-below w32 (at-args .args .words .now) (at-shared-slice-known2 .shared-slice-known2 .given)) (c .paint-of .ensures (it .object) (it .body) ∙ sym (asked-part (λ d. paintPart (at-args .args .which)) (λ d. paintValue) (Refused 16) it))
 
 pub paint-spec : {M : Type 1} → statement M
 paint-spec =

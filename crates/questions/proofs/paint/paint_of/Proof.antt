@@ -1,4 +1,6 @@
 -- `questions::paint::paint_of` meets its contract.
+use mathlib.Core.Path.{ap}
+use Rattle.questions.specs.TextQuestion.{hasText}
 use mathlib.Core.Path.{sym, _∙_}
 use Rattle.questions.specs.PaintQuestionLaws.{painted-holds, line-painted, fill-painted, text-painted, no-path, no-text, no-paint, paint-answered}
 use borrow.Author.Needs.{needs}
@@ -77,38 +79,37 @@ returns-4 c =
 enum-told-3 : tie.Need-enum-told-3
 enum-told-3 c = search needs
 
-returns-5 : tie.Need-returns-5
-returns-5 c =
-    let at-enum-told3 = c .before in
-    let at-kind-in = at-enum-told3 .before .before .before in
-    let at-args = at-kind-in .before .before .before in
-    λ o row. no-paint (at-args .args .contents .now) (at-args .args .words .now) (at-args .args .version) (at-args .args .row) o (at-enum-told3 .enum-told3 .given .1) (no-text (at-args .args .contents .now) (at-args .args .words .now) (at-args .args .version) (at-args .args .row) o row (λ is. c .if3 .taken (at-kind-in .kind-in .ensures ∙ is)))
+has-text-requires : tie.Need-has-text-requires
+has-text-requires c κs = search needs
 
-behind-requires-2 : tie.Need-behind-requires-2
-behind-requires-2 c κs = search needs
-
-behind-requires-3 : tie.Need-behind-requires-3
-behind-requires-3 c κs = search needs
+text-places-requires : tie.Need-text-places-requires
+text-places-requires c κs = search needs
 
 paint-at-requires-3 : tie.Need-paint-at-requires-3
 paint-at-requires-3 c κs =
-    let at-behind2 = c .before in
-    let at-if3 = at-behind2 .before in
-    let at-start-in = at-if3 .before .before .before in
-    let at-kind-in = at-start-in .before in
+    let at-if3 = c .before in
+    let at-has-text = at-if3 .before in
+    let at-kind-in = at-has-text .before .before .before .before in
     let at-args = at-kind-in .before .before .before in
-    painted-holds (at-args .args .contents .now) (at-args .args .words .now) (at-args .args .version) (at-args .args .row) (at-args .pre .short) (text-painted (at-args .args .contents .now) (at-args .args .words .now) (at-args .args .version) (at-args .args .row) (at-start-in .start-in .ensures) (at-behind2 .behind2 .ensures .is) (c .behind3 .ensures .is) (at-args .pre .object) (at-args .pre .body) (sym (at-kind-in .kind-in .ensures) ∙ at-if3 .if3 .left))
+    painted-holds (at-args .args .contents .now) (at-args .args .words .now) (at-args .args .version) (at-args .args .row) (at-args .pre .short) (text-painted (at-args .args .contents .now) (at-args .args .words .now) (at-args .args .version) (at-args .args .row) (c .text-places .ensures) (at-args .pre .object) (at-args .pre .body) (ap hasText (sym (at-kind-in .kind-in .ensures)) ∙ sym (at-has-text .has-text .ensures) ∙ at-if3 .if3 .taken))
+
+returns-5 : tie.Need-returns-5
+returns-5 c =
+    let at-text-places = c .before in
+    let at-if3 = at-text-places .before in
+    let at-has-text = at-if3 .before in
+    let at-enum-told3 = at-has-text .before in
+    let at-kind-in = at-enum-told3 .before .before .before in
+    let at-args = at-kind-in .before .before .before in
+    λ o row. paint-answered (at-args .args .contents .now) (at-args .args .words .now) (at-args .args .version) (at-args .args .row) o (at-enum-told3 .enum-told3 .given .1) (text-painted (at-args .args .contents .now) (at-args .args .words .now) (at-args .args .version) (at-args .args .row) (at-text-places .text-places .ensures) o row (ap hasText (sym (at-kind-in .kind-in .ensures)) ∙ sym (at-has-text .has-text .ensures) ∙ at-if3 .if3 .taken)) (c .paint-at3 .ensures)
 
 returns-6 : tie.Need-returns-6
 returns-6 c =
-    let at-behind3 = c .before in
-    let at-behind2 = at-behind3 .before in
-    let at-if3 = at-behind2 .before in
-    let at-enum-told3 = at-if3 .before in
-    let at-start-in = at-enum-told3 .before .before in
-    let at-kind-in = at-start-in .before in
+    let at-has-text = c .before in
+    let at-enum-told3 = at-has-text .before in
+    let at-kind-in = at-enum-told3 .before .before .before in
     let at-args = at-kind-in .before .before .before in
-    λ o row. paint-answered (at-args .args .contents .now) (at-args .args .words .now) (at-args .args .version) (at-args .args .row) o (at-enum-told3 .enum-told3 .given .1) (text-painted (at-args .args .contents .now) (at-args .args .words .now) (at-args .args .version) (at-args .args .row) (at-start-in .start-in .ensures) (at-behind2 .behind2 .ensures .is) (at-behind3 .behind3 .ensures .is) o row (sym (at-kind-in .kind-in .ensures) ∙ at-if3 .if3 .left)) (c .paint-at3 .ensures)
+    λ o row. no-paint (at-args .args .contents .now) (at-args .args .words .now) (at-args .args .version) (at-args .args .row) o (at-enum-told3 .enum-told3 .given .1) (no-text (at-args .args .contents .now) (at-args .args .words .now) (at-args .args .version) (at-args .args .row) o row (ap hasText (sym (at-kind-in .kind-in .ensures)) ∙ sym (at-has-text .has-text .ensures) ∙ c .if3 .left))
 
 pub paint-of-spec : {M : Type 1} → statement M
 paint-of-spec =
@@ -126,8 +127,8 @@ paint-of-spec =
     paint-at-requires-2
     returns-4
     enum-told-3
-    returns-5
-    behind-requires-2
-    behind-requires-3
+    has-text-requires
+    text-places-requires
     paint-at-requires-3
+    returns-5
     returns-6)

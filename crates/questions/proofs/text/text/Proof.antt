@@ -1,8 +1,7 @@
 -- `questions::text::text` meets its contract.
 use Rattle.questions.specs.RowQuestions.{no-table, no-such-row, asked, asked-part}
-use Rattle.drawing.specs.Questions.{orRefusal, leafPart, noText, textPlaces}
+use Rattle.drawing.specs.Questions.{orRefusal, noText, textPart, textPlaces}
 use Rattle.drawing.specs.Computed.{textValue}
-use Rattle.drawing.specs.ObjectId.{textOf}
 use Rattle.drawing.specs.Table.{startIn}
 use Rattle.format.specs.LeafLaws.{known-below}
 use Rattle.promises.specs.PromiseLaws.{texts}
@@ -30,7 +29,7 @@ returns c =
     let at-check = at-if1 .before .before in
     let at-shared-slice-known2 = at-check .before in
     let at-args = at-shared-slice-known2 .before .before in
-    texts (known-below w32 (at-args .args .words .now) (at-shared-slice-known2 .shared-slice-known2 .given)) (c .refused .ensures ∙ sym (no-table (leafPart textOf) (λ d x. textValue (textPlaces (startIn (at-args .args .contents .now) (at-args .args .row)) (d .version) x)) (textValue (noText 16)) (at-check .check .ensures) (at-args .args .row) (at-if1 .if1 .taken)))
+    texts (known-below w32 (at-args .args .words .now) (at-shared-slice-known2 .shared-slice-known2 .given)) (c .refused .ensures ∙ sym (no-table (λ d. textPart (d .version)) (λ d x. textValue (textPlaces (startIn (at-args .args .contents .now) (at-args .args .row)) (d .version) x)) (textValue (noText 16)) (at-check .check .ensures) (at-args .args .row) (at-if1 .if1 .taken)))
 
 refused-requires-2 : tie.Need-refused-requires-2
 refused-requires-2 c κs = search needs
@@ -42,7 +41,7 @@ returns-2 c =
     let at-check = at-if1 .before .before in
     let at-shared-slice-known2 = at-check .before in
     let at-args = at-shared-slice-known2 .before .before in
-    texts (known-below w32 (at-args .args .words .now) (at-shared-slice-known2 .shared-slice-known2 .given)) (no-such-row (leafPart textOf) (λ d x. textValue (textPlaces (startIn (at-args .args .contents .now) (at-args .args .row)) (d .version) x)) (textValue (noText 16)) (at-check .check .ensures) (at-args .args .row) (at-if1 .if1 .left) (at-if2 .if2 .taken) (λ d. c .refused2 .ensures))
+    texts (known-below w32 (at-args .args .words .now) (at-shared-slice-known2 .shared-slice-known2 .given)) (no-such-row (λ d. textPart (d .version)) (λ d x. textValue (textPlaces (startIn (at-args .args .contents .now) (at-args .args .row)) (d .version) x)) (textValue (noText 16)) (at-check .check .ensures) (at-args .args .row) (at-if1 .if1 .left) (at-if2 .if2 .taken) (λ d. c .refused2 .ensures))
 
 shared-slice-read-version : tie.Need-shared-slice-read-version
 shared-slice-read-version c =
@@ -72,8 +71,8 @@ returns-3 c =
     let it = (asked (at-check .check .ensures) (at-args .args .row) (at-if1 .if1 .left) (known-below w32 (at-args .args .words .now) (at-shared-slice-known2 .shared-slice-known2 .given)) (omega (arith, at-if2 .if2 .left))) in
     texts (known-below w32 (at-args .args .words .now) (at-shared-slice-known2 .shared-slice-known2 .given))
     (c .text-of .ensures (it .object) (it .body)
-    ∙ ap (λ v. textValue (textPlaces (startIn (at-args .args .contents .now) (at-args .args .row)) v (orRefusal 7 (leafPart textOf (it .object))))) (it .version-is)
-    ∙ sym (asked-part (leafPart textOf) (λ d x. textValue (textPlaces (startIn (at-args .args .contents .now) (at-args .args .row)) (d .version) x)) (textValue (noText 16)) it))
+    ∙ ap (λ v. textValue (textPlaces (startIn (at-args .args .contents .now) (at-args .args .row)) v (orRefusal 7 (textPart v (it .object))))) (it .version-is)
+    ∙ sym (asked-part (λ d. textPart (d .version)) (λ d x. textValue (textPlaces (startIn (at-args .args .contents .now) (at-args .args .row)) (d .version) x)) (textValue (noText 16)) it))
 
 pub text-spec : {M : Type 1} → statement M
 text-spec =

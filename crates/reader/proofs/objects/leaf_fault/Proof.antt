@@ -25,13 +25,13 @@ returns c =
     let at-if1 = at-char-at .before in
     let at-there = at-if1 .before in
     let at-args = at-there .before .before in
-    fault-there (objectId (isLeaf 0) false) (at-args .args .file .now) (at-args .args .at) (at-there .there .ensures .yes (at-if1 .if1 .taken)) (at-char-at .char-at .ensures) (c .object-fault .ensures)
+    fault-there (objectId (isLeaf (at-args .args .version)) false) (at-args .args .file .now) (at-args .args .at) (at-there .there .ensures .yes (at-if1 .if1 .taken)) (at-char-at .char-at .ensures) (c .object-fault .ensures)
 
 returns-2 : tie.Need-returns-2
 returns-2 c =
     let at-there = c .before in
     let at-args = at-there .before .before in
-    fault-cut (objectId (isLeaf 0) false) (at-args .args .file .now) (at-args .args .at) (at-there .there .ensures .no (c .if1 .left))
+    fault-cut (objectId (isLeaf (at-args .args .version)) false) (at-args .args .file .now) (at-args .args .at) (at-there .there .ensures .no (c .if1 .left))
 
 pub leaf-fault-spec : {M : Type 1} → statement M
 leaf-fault-spec =

@@ -1,0 +1,20 @@
+// Texts along paths: a text with its paint first, and an outline.
+use crate::path::outline;
+use crate::text::text_style;
+use from_file::prims::Kept;
+use from_file::prims::Unit;
+use from_file::string::string;
+use from_file_styles::paint::paint;
+use ways::Pass;
+ghost use Rattle.drawing.specs.TextPath as T;
+ghost use Rattle.from_file.specs.Lays.{Begins, Lays};
+
+pub fn text_path(src: &[Unit], dst: &mut [Kept], at: usize, to: usize, version: u32) -> Pass
+    requires { ⌜ Begins (now src) at to ⌝ }
+    ensures { λ r. ⌜ Lays (T.textPath version) (now (src .entry)) (now (dst .entry)) (now (dst .exit)) at to r ⌝ }
+{
+    let painted = paint(&*src, dst, at, to, version);
+    let styled = text_style(&*src, dst, painted.at, painted.to);
+    let worded = string(&*src, dst, styled.at, styled.to, 1);
+    outline(&*src, dst, worded.at, worded.to, version)
+}
