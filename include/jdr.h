@@ -27,7 +27,7 @@ enum {
     JDR_BAD_FLAG = 5,            /* a flag is neither 0 nor 1 */
     JDR_OUT_OF_RANGE = 6,        /* a byte or an integer is outside its list or range, a font size below 0 too */
     JDR_BAD_CHAR = 7,            /* a char is not allowed here in this version */
-    JDR_BAD_COUNT = 8,           /* a count or length is negative, or 0 where 1 is needed; or a dash count is odd */
+    JDR_BAD_COUNT = 8,           /* a count or length is negative, or 0 where 1 is needed (a group needs no object); or a dash count is odd */
     JDR_BAD_COMPONENT = 9,       /* a paint component is out of range */
     JDR_TOO_DEEP = 10,           /* a group of depth 17, or a fifth marker in a chain, with an id that is not 0 */
     JDR_FLOW_FRAME = 11,         /* a flow frame flag is 1 */

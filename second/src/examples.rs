@@ -44,7 +44,8 @@ fn hall() -> Drawing {
 }
 
 /// A label that the outer group has, a group in it and what that holds; labels that begin alike; chars that are not ASCII, and two for one
-/// code point; a group without a label; an object whose parent is not the group that ended last; and a text whose alternative is shown.
+/// code point; a group without a label; a bay with nothing in it yet; an object whose parent is not the group that ended last; and a text
+/// whose alternative is shown.
 fn bays() -> Drawing {
     let [_, _, version, ..] = Version::ALL;
     let mill = "Fräse 🔧";
@@ -52,7 +53,7 @@ fn bays() -> Drawing {
     let red = Plain::Rgb([ONE, 0, 0, ONE]);
     let aisle = group("bay 1", vec![path(red, Plain::Transparent, "bay")]);
     let mill = Object::Text(with_alternative(text("Mill", mill), "\\emph{Mill} 🔧"));
-    let unnamed = group("", vec![aisle, mill]);
+    let unnamed = group("", vec![aisle, group("bay", vec![]), mill]);
     let outer = Group { objects: vec![inner, unnamed], description: chars("bay") };
     Drawing { version, settings: Settings::None, outer }
 }

@@ -1,4 +1,4 @@
-//! The drawing as a tree of objects with their fields (01, 'Fields'; 02, R-1).
+//! The drawing as a tree of objects with their fields (01, 'Fields'; 02, R-1 and R-2).
 //!
 //! Floats and doubles are kept as their bits, so that every NaN comes through unchanged.
 //! The flow frame flag is no part of the tree: a drawing that is accepted has it 0 everywhere.
@@ -70,6 +70,7 @@ pub enum Object {
 /// A description is empty below 1.2, where the file has none.
 #[derive(Clone, Debug, PartialEq, Eq)]
 pub struct Group {
+    /// None in an empty group.
     pub objects: Vec<Object>,
     pub description: Chars,
 }

@@ -3,7 +3,8 @@
 mod hand;
 
 use hand::{
-    bitmap_1_1, path_1_0, path_1_4, text_1_2, text_path_1_5, PATH_1_0, PATH_1_4, TEXT_1_2, TEXT_PATH_1_5,
+    bitmap_1_1, empty_1_0, empty_1_2, path_1_0, path_1_4, text_1_2, text_path_1_5, EMPTY_1_2, PATH_1_0,
+    PATH_1_4, TEXT_1_2, TEXT_PATH_1_5,
 };
 use second::plans::{plan_a, Hand};
 use second::{check, lister, read, table, write};
@@ -42,6 +43,9 @@ fn tables_by_hand() {
     assert_table(&path_1_4(), &[1, 0, 57, 4, 2, 0, 2, 55], &PATH_1_4);
     assert_table(&text_1_2(), &[1, 0, 55, 3, 3, 0, 16, 39], &TEXT_1_2);
     assert_table(&text_path_1_5(), &[1, 0, 54, 3, 5, 0, 2, 52], &TEXT_PATH_1_5);
+    assert_table(&empty_1_0(), &[1, 0, 2, 2], &[0, 0, 0, 0]);
+    let rows = [[1, 0, 20, 3], [1, 0, 2, 6], [1, 0, 14, 3], [1, 2, 8, 6], [1, 0, 17, 3]];
+    assert_table(&empty_1_2(), &rows.concat(), &EMPTY_1_2);
 }
 
 #[test]
@@ -60,6 +64,12 @@ fn the_lister_prints_an_x() {
 }
 
 #[test]
+fn the_lister_prints_an_empty_group() {
+    let table = table::of(&read::drawing(&empty_1_0()).unwrap());
+    assert_eq!(lister::lines(&table), "1.0 1 4\n0 G 0 2 2\n");
+}
+
+#[test]
 fn parents_are_those_of_the_nesting() {
     let table = table::of(&read::drawing(&bitmap_1_1()).unwrap());
     // name 2, flag 1, strings 3 and 1, doubles 12, flow flag 1: 20 words; the second has 16.
@@ -74,6 +84,8 @@ fn lengths_by_hand() {
     assert_eq!(path_1_4().len(), 196);
     assert_eq!(text_1_2().len(), 192);
     assert_eq!(text_path_1_5().len(), 200);
+    assert_eq!(empty_1_0().len(), 24);
+    assert_eq!(empty_1_2().len(), 84);
 }
 
 #[test]
@@ -300,6 +312,42 @@ fn an_outline_is_cut_at_the_field_that_is_missing() {
     {
         assert_eq!(answer(&file[..kept]), (2, field));
     }
+}
+
+#[test]
+fn the_smallest_file() {
+    let file = empty_1_0();
+    assert_eq!(answer(&file), (0, 24));
+    assert_eq!(answer(&file[..23]), (2, 23));
+    assert_eq!(answer(&[&file[..], &[0]].concat()), (13, 24));
+    assert_eq!(with(&file, 19, &[255; 4]), (8, 19));
+    assert_eq!(with(&file, 19, &[128, 0, 0, 0]), (8, 19));
+    assert_eq!(with(&file, 19, &[0, 0, 0, 1]), (2, 23), "an id char is wanted");
+    assert_eq!(with(&file, 23, &[1]), (11, 23));
+    assert_eq!(with(&file, 23, &[2]), (5, 23));
+    assert_eq!(with(&file, 15, b"2"), (2, 24), "a description is wanted");
+}
+
+#[test]
+fn refusals_around_empty_groups() {
+    let file = empty_1_2();
+    for n in [19, 25, 42, 48, 70] {
+        assert_eq!(with(&file, n, &[255; 4]), (8, n as u32));
+        assert_eq!(with(&file, n, &[128, 0, 0, 0]), (8, n as u32));
+        assert_eq!(answer(&file[..n + 3]), (2, n as u32));
+    }
+    for (n, flow_flag) in [(25, 29), (48, 52), (70, 74)] {
+        assert_eq!(with(&file, n, &[0, 0, 0, 1]), (7, flow_flag), "an object where the flow flag stands");
+    }
+    assert_eq!(with(&file, 19, &[0, 0, 0, 4]), (7, 79));
+    // A count too small: the id char's first byte is taken as the flow flag, its second begins the description's length.
+    assert_eq!(with(&file, 42, &[0; 4]), (2, 51 + (84 - 51) / 2 * 2));
+    assert_eq!(with(&file, 19, &[0, 0, 0, 2]), (2, 73 + (84 - 73) / 2 * 2));
+    assert_eq!(with(&file, 29, &[1]), (11, 29));
+    assert_eq!(with(&file, 52, &[2]), (5, 52));
+    assert_eq!(with(&file, 53, &[255; 4]), (8, 53));
+    assert_eq!(answer(&file[..29]), (2, 29));
+    assert_eq!(answer(&file[..38]), (2, 38), "a char of the description");
 }
 
 #[test]

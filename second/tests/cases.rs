@@ -59,7 +59,7 @@ fn tables_and_lists_hold_good_and_bad_ones() {
         let numbers = first_numbers(&cases);
         assert!(numbers.keys().copied().eq([0, 16]), "{numbers:?}");
         assert!(numbers.values().all(|count| *count >= 20), "{numbers:?}");
-        assert!(cases.len() <= 250 && bytes(&cases) < 1_500_000);
+        assert!(cases.len() <= 300 && bytes(&cases) < 1_500_000);
     }
 }
 

@@ -3,7 +3,8 @@
 use second::damage::fields::{of_bodies, of_file};
 use second::damage::{files, tables};
 use second::generate::special::{
-    of_depth, padded, plain_bitmap, plain_drawing, sampler, with_chains, with_text_path,
+    empty_groups, empty_to_depth, of_depth, padded, plain_bitmap, plain_drawing, sampler, with_chains,
+    with_text_path,
 };
 use second::generate::{self, all_labels, chars};
 use second::model::{Bitmap, Drawing, Group, Object};
@@ -84,7 +85,8 @@ fn small_drawings() {
         let mut random = Random::new(seed);
         let version = Version::ALL[seed as usize % Version::ALL.len()];
         let size = random.within(1, 900);
-        all_alike(&mut random, &generate::drawing(seed, version, size), 60);
+        let make = if random.flag() { generate::with_empty_groups } else { generate::drawing };
+        all_alike(&mut random, &make(seed, version, size), 60);
     }
 }
 
@@ -96,6 +98,10 @@ fn drawings_at_limits() {
         for depth in 14..=18 {
             all_alike(&mut random, &of_depth(version, depth, &chars("deep")), 20);
         }
+        for depth in 1..=18 {
+            all_alike(&mut random, &empty_to_depth(version, depth, &chars("bay")), 60);
+        }
+        all_alike(&mut random, &plain_drawing(version, empty_groups(5_900)), 3);
         if version.has_chains() {
             for length in 3..=6 {
                 all_alike(&mut random, &with_chains(3, version, [length, 0, length]), 20);
@@ -133,7 +139,10 @@ fn labels_that_bodies_end_with() {
             let description = bitmap.description.clone();
             Object::Group(Group { objects: vec![Object::Bitmap(bitmap)], description })
         });
-        let drawing = plain_drawing(version, bitmaps.map(Object::Bitmap).into_iter().chain(groups).collect());
+        let empty =
+            descriptions.clone().map(|description| Object::Group(Group { objects: vec![], description }));
+        let objects = bitmaps.map(Object::Bitmap).into_iter().chain(groups).chain(empty);
+        let drawing = plain_drawing(version, objects.collect());
         let table = table::of(&drawing);
         for label in &descriptions {
             list_alike(&table, label);

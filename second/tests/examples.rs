@@ -24,6 +24,7 @@ fn labels_at_several_depths() {
         "row 1 group inside 0",
         "row 2 text inside 1 0 shows Bay",
         "row 6 path inside 5 4 0",
+        "row 7 group inside 4 0",
     ];
     assert_eq!(rows("bays.jdr", "bay"), bays);
 }
@@ -39,7 +40,7 @@ fn texts_along_paths() {
 fn a_parent_is_not_the_group_that_ended_last() {
     assert_eq!(
         rows("bays.jdr", "Fräse 🔧"),
-        ["row 3 bitmap inside 1 0", "row 7 text inside 4 0 shows \\emph{Mill} 🔧"]
+        ["row 3 bitmap inside 1 0", "row 8 text inside 4 0 shows \\emph{Mill} 🔧"]
     );
     assert_eq!(rows("hall.jdr", "door"), ["row 7 bitmap inside 0"]);
 }

@@ -3,8 +3,9 @@
 use second::damage::faults::faults;
 use second::damage::fields::of_file;
 use second::damage::files::put;
-use second::generate;
-use second::generate::special::{sampler, with_text_path};
+use second::generate::special::{empty_to_depth, sampler, with_text_path};
+use second::generate::{self, chars};
+use second::layout::Kind;
 use second::model::Drawing;
 use second::read::{self, Refusal};
 use second::version::Version;
@@ -15,7 +16,9 @@ fn drawings() -> Vec<Drawing> {
     let mut all: Vec<Drawing> = Version::ALL.iter().map(|version| sampler(5, *version)).collect();
     for seed in 0..10 {
         all.extend(Version::ALL.iter().map(|version| generate::drawing(seed, *version, 600)));
+        all.extend(Version::ALL.iter().map(|version| generate::with_empty_groups(seed, *version, 600)));
     }
+    all.extend(Version::ALL.iter().map(|version| empty_to_depth(*version, 16, &chars("bay"))));
     all
 }
 
@@ -50,6 +53,23 @@ fn every_fault_has_its_number_and_offset() {
         for number in 3..=12 {
             let there = number != 12 || version < 3;
             assert_eq!(seen.contains_key(&(version, number)), there, "1.{version}: {number}");
+        }
+    }
+}
+
+#[test]
+fn a_groups_count_of_0_is_no_fault_and_a_negative_one_is() {
+    for drawing in drawings() {
+        let file = write::file(&drawing);
+        for field in of_file(&drawing).iter().filter(|field| field.kind == Kind::Members) {
+            let at_field = |value: i32| {
+                let refusal = read::drawing(&put(&file, field, u64::from(value.cast_unsigned()))).err();
+                refusal.filter(|refusal| refusal.offset == field.place as u32)
+            };
+            assert_eq!(at_field(0), None);
+            for negative in [-1, i32::MIN] {
+                assert_eq!(at_field(negative).map(|refusal| refusal.number), Some(8));
+            }
         }
     }
 }

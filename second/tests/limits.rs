@@ -2,7 +2,9 @@
 
 use second::damage::fields::of_file;
 use second::damage::tables::deep;
-use second::generate::special::{nested, of_depth, padded, plain_bitmap, plain_drawing, with_chains};
+use second::generate::special::{
+    empty_groups, empty_to_depth, nested, of_depth, padded, plain_bitmap, plain_drawing, with_chains,
+};
 use second::generate::{self, chars};
 use second::layout::Kind;
 use second::model::{Drawing, Object};
@@ -31,6 +33,39 @@ fn depth_16_is_accepted_and_17_refused() {
         assert_eq!(refusal(&deeper), Some(Refusal { number: 10, offset: 17 + 16 * 6 }));
         assert!(agrees(&deeper));
     }
+}
+
+#[test]
+fn an_empty_group_is_accepted_at_depth_16_and_refused_at_17() {
+    for version in Version::ALL {
+        for depth in 1..=16 {
+            let deep = empty_to_depth(version, depth, &chars("d"));
+            assert_eq!(refusal(&deep), None);
+            assert!(agrees(&deep));
+        }
+        let inside = |groups| plain_drawing(version, vec![nested(empty_groups(1).remove(0), groups)]);
+        assert_eq!(refusal(&inside(14)), None);
+        assert_eq!(refusal(&inside(15)), Some(Refusal { number: 10, offset: 17 + 16 * 6 }));
+        assert!(agrees(&inside(14)) && agrees(&inside(15)));
+        let deeper = empty_to_depth(version, 17, &chars("d"));
+        // Up to there each depth has an empty group before the next one, and the first of the last depth is too deep.
+        let each = if version.has_descriptions() { 6 + 13 } else { 6 + 7 };
+        assert_eq!(refusal(&deeper), Some(Refusal { number: 10, offset: 17 + 15 * each + 6 }));
+        assert!(agrees(&deeper));
+    }
+}
+
+#[test]
+fn the_most_rows_there_can_be() {
+    let [v0, ..] = Version::ALL;
+    let most = plain_drawing(v0, empty_groups(9_358));
+    assert_eq!(write::file(&most).len(), 65_530);
+    assert_eq!(table::of(&most).rows(), 9_359);
+    assert_eq!(refusal(&most), None);
+    assert!(agrees(&most));
+    let more = plain_drawing(v0, empty_groups(9_359));
+    assert_eq!(refusal(&more), Some(Refusal { number: 1, offset: 65_535 }));
+    assert!(agrees(&more));
 }
 
 #[test]

@@ -2,7 +2,7 @@
 
 mod hand;
 
-use hand::{bitmap_1_1, path_1_0, path_1_4, text_1_2, text_path_1_5};
+use hand::{bitmap_1_1, empty_1_0, empty_1_2, path_1_0, path_1_4, text_1_2, text_path_1_5};
 use second::answer::{Answer, TextAnswer};
 use second::ask::{paint, shown, text};
 use second::check::{good, Good};
@@ -35,13 +35,30 @@ fn labels_by_hand() {
 }
 
 #[test]
+fn empty_groups_are_listed_by_their_label() {
+    let good = table_of(&empty_1_2());
+    assert_eq!(entries(&good.drawing, &chars("bay")), [1, 3]);
+    assert_eq!(entries(&good.drawing, &[]), [0, 2, 4]);
+    assert_eq!(groups_around(&good.drawing), [vec![], vec![0], vec![0], vec![2, 0], vec![0]]);
+    let mut lent = [9; 3];
+    assert_eq!(list::call(Some(&good), &chars("bay"), &mut lent), Answer::new(0, 0, 2, 0));
+    assert_eq!(lent, [1, 3, 9]);
+    let smallest = table_of(&empty_1_0());
+    assert_eq!(list::call(Some(&smallest), &[], &mut lent), Answer::new(0, 0, 1, 0));
+    assert_eq!(lent, [0, 3, 9]);
+    assert_eq!(list::call(Some(&smallest), &chars("bay"), &mut []), Answer::new(0, 0, 0, 0));
+}
+
+#[test]
 fn parents_lead_out_as_the_file_nests() {
     for seed in 0..50 {
         for version in Version::ALL {
-            let drawing = generate::drawing(seed, version, 800);
-            let contents = table::of(&drawing).contents;
-            for (row, around) in groups_around(&drawing).iter().enumerate() {
-                assert_eq!(parents_followed(&contents, row as u32), *around);
+            for make in [generate::drawing, generate::with_empty_groups] {
+                let drawing = make(seed, version, 800);
+                let contents = table::of(&drawing).contents;
+                for (row, around) in groups_around(&drawing).iter().enumerate() {
+                    assert_eq!(parents_followed(&contents, row as u32), *around);
+                }
             }
         }
     }
@@ -106,6 +123,12 @@ fn refused_questions() {
         assert_eq!(paint(Some(&along), 1, which).words(), refused(7));
     }
     assert_eq!(paint(Some(&along), 2, 2).words(), refused(6));
+    let smallest = table_of(&empty_1_0());
+    for which in 0..4 {
+        assert_eq!(paint(Some(&smallest), 0, which).words(), refused(7));
+        assert_eq!(paint(Some(&smallest), 1, which).words(), refused(6));
+    }
+    assert_eq!([0, 1].map(|row| text(Some(&smallest), row)), [7, 6].map(TextAnswer::refused));
 }
 
 #[test]

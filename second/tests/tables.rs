@@ -4,8 +4,8 @@ use second::answer::Answer;
 use second::check;
 use second::damage::fields::{of_bodies, words, Field};
 use second::damage::tables::{exchange_bodies, put};
-use second::generate;
-use second::generate::special::{plain_bitmap, plain_drawing, sampler};
+use second::generate::special::{empty_to_depth, plain_bitmap, plain_drawing, sampler};
+use second::generate::{self, chars};
 use second::layout::Kind;
 use second::model::{Drawing, Object};
 use second::table::{self, Table, ROW};
@@ -14,8 +14,12 @@ use second::{read, write};
 
 fn drawings() -> Vec<Drawing> {
     let mut all: Vec<Drawing> = Version::ALL.iter().map(|version| sampler(2, *version)).collect();
+    for depth in [1, 4] {
+        all.extend(Version::ALL.iter().map(|version| empty_to_depth(*version, depth, &chars("bay"))));
+    }
     for seed in 0..60 {
         all.extend(Version::ALL.iter().map(|version| generate::drawing(seed, *version, 500)));
+        all.extend(Version::ALL.iter().map(|version| generate::with_empty_groups(seed, *version, 500)));
     }
     all
 }
@@ -115,6 +119,28 @@ fn runs_have_exactly_the_used_words() {
     assert!(check::good(&[], &[]).is_none());
     assert!(check::good(&table.contents, &[]).is_none());
     assert!(check::good(&[], &table.bodies).is_none());
+}
+
+/// An empty group and one of three empty ones inside the outer group: rows 1, and 2 with 3 to 5; row 6 comes after.
+#[test]
+fn an_empty_group_takes_no_object() {
+    for version in Version::ALL {
+        let table = table::of(&empty_to_depth(version, 3, &chars("bay")));
+        assert!(is_good(&table));
+        let parents: Vec<u32> = table.contents.chunks(ROW).map(|row| row[1]).collect();
+        assert_eq!(parents, [0, 0, 0, 2, 2, 2, 0]);
+        for (row, parent) in [(2, 1), (3, 1), (4, 3), (6, 5), (6, 1)] {
+            let mut moved = table.clone();
+            moved.contents[row * ROW + 1] = parent;
+            assert!(!is_good(&moved));
+            // The counts made right, the bodies still stand where they stood.
+            for (group, change) in [(parent, 1), (parents[row], -1)] {
+                let n = moved.contents[group as usize * ROW + 2] as usize;
+                moved.bodies[n] = moved.bodies[n].wrapping_add_signed(change);
+            }
+            assert!(!is_good(&moved));
+        }
+    }
 }
 
 #[test]

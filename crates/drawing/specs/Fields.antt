@@ -82,9 +82,9 @@ fontSize = record { shape = K.integer; fault = λ v. unless (leZ (pos 0) (toZ w3
 abbrev pub count : ℕ → Kind
 count least = record { shape = K.integer; fault = λ v. unless (leZ (pos least) (toZ w32 v)) badCount }
 
--- how many objects a group has
+-- how many objects a group has: none or more (R-2)
 abbrev pub memberCount : Kind
-memberCount = count 1
+memberCount = count 0
 
 -- how many segments a path has
 abbrev pub segmentCount : Kind

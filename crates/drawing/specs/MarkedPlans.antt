@@ -89,8 +89,8 @@ marked =
     ∷ refused (set planA 16 2) 5 16
     -- m8: outer id T
     ∷ refused (set planA 18 (code "T")) 7 17
-    -- m9: n = 0; m10: n = 2
-    ∷ refused (set planA 22 0) 8 19
+    -- m9: n = 0, so that the 0 at 23 is the flow frame flag; m10: n = 2
+    ∷ refused (set planA 22 0) 13 24
     ∷ refused (set planA 22 2) 2 81
     -- m11: name length -1
     ∷ refused (sets planA 25 (255 ∷ 255 ∷ 255 ∷ 255 ∷ [])) 8 25

@@ -24,7 +24,7 @@ pub const DEPTH_LIMIT: u32 = 16;
 pub const MARKER_LIMIT: u32 = 4;
 
 // the fewest objects of a group, and segments of a path
-pub const LEAST_MEMBERS: u32 = 1;
+pub const LEAST_MEMBERS: u32 = 0;
 
 pub const LEAST_SEGMENTS: u32 = 1;
 

@@ -59,7 +59,7 @@ as-group file v deep at =
     ∙ ap (λ o. andThen o (λ n rest. fromMembers v deep n rest)) (sym (parse-field bytes memberCount (drop at file)))
 
 module _ (file : List ℕ) (below : Below 256 file) (v deep parent at row to : ℕ) (cs bs : List ℕ) (stands : Stands (length file) at row to)
-    {none none′ : List ℕ} {q : FieldPass} (counts : Counts 1 file none none′ at to q) where
+    {none none′ : List ℕ} {q : FieldPass} (counts : Counts 0 file none none′ at to q) where
   pub group-refused : {r : Walked} → Passes.refused ≤ q .pass .at → r ≡ record { row = row; at = q .pass .at; to = q .pass .to } → DescendsGroup file v deep parent at row to cs bs cs bs r
   group-refused off is =
       let u = field-unfound way bytes-sensible file below memberCount (stands .inside) (counts .asks K.integer refl refl) off in

@@ -186,7 +186,7 @@ leafBody v letter = ((text v, (bitmap, (textPath v, path v))), λ l. objectEnd v
 
 object : (v deep : ℕ) → AllMild (Object.object v deep .format)
 object v zero = (objectId (Leaf.isLeaf v) false, λ c. leafBody v c)
-object v (suc deep) = (objectId (Leaf.isLeaf v) true, λ c. (leafBody v c, ((count 1, λ n t. object v deep), λ os. objectEnd v)))
+object v (suc deep) = (objectId (Leaf.isLeaf v) true, λ c. (leafBody v c, ((count 0, λ n t. object v deep), λ os. objectEnd v)))
 
 paper : (v : ℕ) → AllMild (Settings.paper v .format)
 paper v = (byte 0 (cond (leb 3 v) 72 18), λ s. ((any, λ w. (any, λ h. (any, tt))), tt))
@@ -203,7 +203,7 @@ file = (
     λ v. unless-mild (eqb v 3) 4 (omega arith),
     λ l. (
       λ c. unless-mild (leb F.versionZero c && leb c (F.versionZero + lastMinor)) 4 (omega arith),
-      λ v. (settings v, λ s. (char (λ c. eqb c (code "G")), λ c. ((count 1, λ n t. object v 15), λ os. objectEnd v))),
+      λ v. (settings v, λ s. (char (λ c. eqb c (code "G")), λ c. ((count 0, λ n t. object v 15), λ os. objectEnd v))),
     ),
   ),
 )

@@ -38,7 +38,7 @@ use Rattle.table.specs.WalkingLaws.{walks-lost, body-walks}
 -- ---- the count
 
 -- Whether one stands here.
-pub count-here : (ws : List ℕ) (start : ℕ) {r : Bool} → start < length ws → getD ws start 0 < 2 ^ 32 → r ≡ leZ (pos 1) (toZ w32 (getD ws start 0)) → Counts ws start r
+pub count-here : (ws : List ℕ) (start : ℕ) {r : Bool} → start < length ws → getD ws start 0 < 2 ^ 32 → r ≡ leZ (pos 0) (toZ w32 (getD ws start 0)) → Counts ws start r
 count-here ws start inside small is =
     record {
       yes = λ t. record { inside = inside; allowed = record { fits = small; faultless = ap (λ b. unless b 8) (sym is ∙ t) } };

@@ -4,13 +4,16 @@ use super::calls::{Asked, Comparer};
 use second::answer::Answer;
 use second::damage::fields::{of_bodies, of_file, Field};
 use second::damage::{files, tables};
-use second::generate::special::{of_depth, padded, sampler, with_chains, with_text_path};
+use second::generate::special::{
+    empty_groups, empty_to_depth, of_depth, padded, plain_drawing, sampler, with_chains, with_text_path,
+};
 use second::generate::{self, all_labels, chars};
 use second::model::{Chars, Drawing};
 use second::random::Random;
 use second::table::{self, Table};
-use second::version::Version;
+use second::version::{Version, LONGEST_FILE};
 use second::{list, read, write};
+use std::collections::BTreeSet;
 
 /// What the calls of a round are made from. The drawing may be over a limit, or have what its version lacks.
 struct Round {
@@ -39,18 +42,35 @@ pub fn round(comparer: &mut Comparer, seed: u64) {
     ask_damaged(comparer, &round);
 }
 
-/// Counts the drawing by its version, and if it has a text along a path.
+/// Counts the drawing by its version, if it has a text along a path, and by the depths at which it has empty groups.
 fn count(comparer: &mut Comparer, round: &Round) {
     comparer.report.met(format!("1.{}", round.drawing.version.minor()));
-    if round.table.contents.chunks(table::ROW).any(|row| row[0] == 5) {
+    let rows: Vec<&[u32]> = round.table.contents.chunks(table::ROW).collect();
+    if rows.iter().any(|row| row[0] == 5) {
         comparer.report.met("with X".to_string());
+    }
+    let mut depths = vec![0; rows.len()];
+    let mut empty = BTreeSet::new();
+    for (index, row) in rows.iter().enumerate() {
+        depths[index] = if index == 0 { 1 } else { depths[row[1] as usize] + 1 };
+        if row[0] == 1 && round.table.bodies[row[2] as usize] == 0 {
+            empty.insert(depths[index]);
+        }
+    }
+    for depth in empty {
+        comparer.report.met(format!("empty group at depth {depth:02}"));
     }
 }
 
-/// Most drawings are small; some are at a limit or just over it, or have a text along a path in any version.
+/// Makes a drawing from a seed, of about so many bytes.
+type Make = fn(u64, Version, usize) -> Drawing;
+
+/// Most drawings are small; some are at a limit or just over it, or have a text along a path in any version. Every other one may have
+/// empty groups anywhere, and some have them at every depth, or nothing else.
 fn some_drawing(random: &mut Random) -> Drawing {
     let seed = random.bits();
     let version = *random.pick(&Version::ALL);
+    let make: Make = if random.flag() { generate::drawing } else { generate::with_empty_groups };
     match random.below(200) {
         0..=5 => sampler(seed, version),
         6..=12 => of_depth(version, random.within(14, 18) as u32, &chars("deep")),
@@ -60,12 +80,17 @@ fn some_drawing(random: &mut Random) -> Drawing {
         }
         23 => {
             let size = *random.pick(&[100, 20_000, 64_000]);
-            padded(generate::drawing(seed, version, size), random.within(65_532, 65_538))
+            padded(make(seed, version, size), random.within(65_532, 65_538))
         }
-        24..=26 => generate::drawing(seed, version, 15_000),
-        27..=50 => generate::drawing(seed, version, 2_000),
+        24..=26 => make(seed, version, 15_000),
+        27..=50 => make(seed, version, 2_000),
         51..=56 => with_text_path(seed, version, random.flag()),
-        _ => generate::drawing(seed, version, random.within(1, 400)),
+        57..=64 => empty_to_depth(version, random.within(1, 18) as u32, &chars("deep")),
+        65 => {
+            let each = write::object_length(version, &empty_groups(1)[0]);
+            plain_drawing(version, empty_groups(LONGEST_FILE / each - random.within(0, 5)))
+        }
+        _ => make(seed, version, random.within(1, 400)),
     }
 }
 

@@ -22,6 +22,7 @@ pub fn faults(kind: Kind, value: u64) -> Vec<Fault> {
         Kind::MarkerId { high, .. } => marker_faults(kind, high),
         Kind::Integer { low, high } => integer_faults(low, high),
         Kind::Count { least } => all(8, [least - 1, -1, i32::MIN].map(integer)),
+        Kind::Members => all(8, [-1, i32::MIN].map(integer)),
         Kind::DashCount => all(8, [1, 3, -1, -2, i32::MIN, i32::MAX].map(integer)),
         Kind::ObjectId { depth, .. } => object_faults(kind, depth),
         Kind::Letter { .. } => letter_faults(kind),

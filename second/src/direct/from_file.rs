@@ -195,7 +195,7 @@ impl<W: Words> Walk for FromFile<'_, W> {
 
     #[inline(always)]
     fn members(&mut self, _opened: &Opened) -> Result<u32, Refusal> {
-        self.take_word::<4>(|bits| if bits.cast_signed() < 1 { 8 } else { 0 })
+        self.take_word::<4>(|bits| if bits.cast_signed() < 0 { 8 } else { 0 })
     }
 
     #[inline(always)]

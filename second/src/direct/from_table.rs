@@ -150,7 +150,7 @@ impl<B: Bytes> Walk for FromTable<'_, B> {
     #[inline(always)]
     fn members(&mut self, opened: &Opened) -> Result<u32, NoTable> {
         let n = *self.bodies.get(opened.start).ok_or(NoTable)?;
-        only_if(n.cast_signed() >= 1)?;
+        only_if(n.cast_signed() >= 0)?;
         self.out.field::<4>(n);
         Ok(n)
     }

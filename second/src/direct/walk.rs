@@ -1,4 +1,4 @@
-//! The layout (01, 'Fields'; 02, R-1), said once for walks over a file and over a table.
+//! The layout (01, 'Fields'; 02, R-1 and R-2), said once for walks over a file and over a table.
 
 use crate::version::{Version, DEEPEST_GROUP, LONGEST_CHAIN, OWN_PAPER};
 
@@ -36,7 +36,7 @@ pub trait Walk {
     /// The id char of an object; a group here would have this depth.
     fn open(&mut self, minor: u32, parent: usize, depth: u32) -> Result<Opened, Self::Stop>;
 
-    /// A group's n, whose word stands behind the bodies of the members.
+    /// A group's n, which may be 0. Its word stands behind the bodies of the members.
     fn members(&mut self, opened: &Opened) -> Result<u32, Self::Stop>;
 
     /// The members are done and the group's own body begins.

@@ -22,6 +22,8 @@ pub struct Maker {
     pub only_nans: bool,
     /// How readily groups stand in groups: one object in so many is a group.
     group_once_in: usize,
+    /// How readily groups are empty: one in so many is, the outer one more seldom, and without a number none.
+    empty_once_in: Option<usize>,
 }
 
 /// A string of these letters.
@@ -48,7 +50,8 @@ impl Maker {
         let all = all_labels();
         let labels = (0..random.within(1, 4)).map(|_| random.pick(&all).clone()).collect();
         let group_once_in = *random.pick(&[2, 4, 4, 8, 30]);
-        Maker { random, version, labels, longest: 60, only_nans: false, group_once_in }
+        let (longest, only_nans, empty_once_in) = (60, false, None);
+        Maker { random, version, labels, longest, only_nans, group_once_in, empty_once_in }
     }
 
     /// Below 1.2 every description is empty.
@@ -115,8 +118,16 @@ impl Maker {
         }
     }
 
-    /// A group of at least one object, and of more while they fit into the room.
+    /// A group of objects that fill the room, or an empty one.
     pub fn group(&mut self, depth: u32, room: usize) -> Group {
+        let seldom = if depth == 1 { 4 } else { 1 };
+        let empty = self.empty_once_in.is_some_and(|times| self.random.once_in(seldom * times));
+        let objects = if empty { Vec::new() } else { self.objects(depth, room) };
+        Group { objects, description: self.description() }
+    }
+
+    /// At least one object, and more while they fit into the room.
+    fn objects(&mut self, depth: u32, room: usize) -> Vec<Object> {
         let mut objects = vec![self.object(depth, room)];
         let mut used = write::object_length(self.version, &objects[0]);
         while used < room {
@@ -127,13 +138,25 @@ impl Maker {
             }
             objects.push(object);
         }
-        Group { objects, description: self.description() }
+        objects
     }
 }
 
-/// A good drawing of about this size, and never over the limit.
+/// A good drawing of about this size, and never over the limit. It has no empty group: the plans that are measured are such drawings.
 pub fn drawing(seed: u64, version: Version, size: usize) -> Drawing {
+    made_by(Maker::new(seed, version), size)
+}
+
+/// The same with more groups, many of them empty. The outer one may be empty too, and is then all there is.
+pub fn with_empty_groups(seed: u64, version: Version, size: usize) -> Drawing {
     let mut maker = Maker::new(seed, version);
+    maker.group_once_in = maker.group_once_in.min(4);
+    maker.empty_once_in = Some(*maker.random.pick(&[2, 3, 4]));
+    made_by(maker, size)
+}
+
+fn made_by(mut maker: Maker, size: usize) -> Drawing {
+    let version = maker.version;
     maker.longest = (size / 16).max(8);
     loop {
         let settings = maker.settings();

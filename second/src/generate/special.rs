@@ -8,7 +8,7 @@ use crate::version::{Version, DEEPEST_GROUP, LONGEST_CHAIN};
 use crate::write;
 
 /// One drawing with every kind of object, paint, marker, segment and optional field of its version,
-/// groups down to the deepest, and a full chain.
+/// groups down to the deepest, an empty group, and a full chain.
 pub fn sampler(seed: u64, version: Version) -> Drawing {
     sample(Maker::new(seed, version))
 }
@@ -32,6 +32,7 @@ fn sample(mut maker: Maker) -> Drawing {
     let leaf = Object::Bitmap(maker.bitmap());
     objects.push(nested(leaf, DEEPEST_GROUP - 1));
     objects.push(Object::Group(maker.group(2, 200)));
+    objects.push(Object::Group(Group { objects: Vec::new(), description: maker.description() }));
     let outer = Group { objects, description: maker.description() };
     Drawing { version, settings: Settings::All(all), outer }
 }
@@ -117,8 +118,17 @@ fn every_bitmap(maker: &mut Maker) -> Vec<Object> {
 
 /// The object inside so many groups, each inside the other.
 pub fn nested(object: Object, groups: u32) -> Object {
-    (0..groups)
-        .fold(object, |inner, _| Object::Group(Group { objects: vec![inner], description: Chars::new() }))
+    (0..groups).fold(object, |inner, _| group(vec![inner]))
+}
+
+/// A group without a description.
+fn group(objects: Vec<Object>) -> Object {
+    Object::Group(Group { objects, description: Chars::new() })
+}
+
+/// So many empty groups.
+pub fn empty_groups(count: usize) -> Vec<Object> {
+    vec![group(Vec::new()); count]
 }
 
 /// The plainest drawing: a group of these objects, no settings.
@@ -140,8 +150,20 @@ pub fn plain_bitmap(name: usize) -> Bitmap {
 /// A drawing whose deepest group has this depth, the same description at every depth.
 pub fn of_depth(version: Version, depth: u32, description: &Chars) -> Drawing {
     let object = nested(Object::Bitmap(plain_bitmap(1)), depth - 1);
-    let mut drawing = plain_drawing(version, vec![object]);
-    if version.has_descriptions() {
+    described(plain_drawing(version, vec![object]), description)
+}
+
+/// A drawing with empty groups at every depth from 2 to this one, before and behind the group that holds the deeper ones; the same
+/// description at every depth. Of depth 1 it is the outer group alone, and empty.
+pub fn empty_to_depth(version: Version, depth: u32, description: &Chars) -> Drawing {
+    let around = |inner| vec![group(Vec::new()), group(inner), group(Vec::new())];
+    let objects = (1..depth).fold(Vec::new(), |inner, _| around(inner));
+    described(plain_drawing(version, objects), description)
+}
+
+/// The drawing with this description everywhere, where its version has descriptions.
+fn described(mut drawing: Drawing, description: &Chars) -> Drawing {
+    if drawing.version.has_descriptions() {
         drawing.outer.description = description.clone();
         drawing.outer.objects.iter_mut().for_each(|each| describe(each, description));
     }

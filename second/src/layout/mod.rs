@@ -1,4 +1,4 @@
-//! The fields of a drawing in file order (01, 'Fields'; 02, R-1), said once for all that is made of them:
+//! The fields of a drawing in file order (01, 'Fields'; 02, R-1 and R-2), said once for all that is made of them:
 //! the file's bytes, the table's words, and the list of fields that damage is put at.
 
 mod leaf;
@@ -36,6 +36,8 @@ pub enum Kind {
         least: i32,
     },
     DashCount,
+    /// A group's n, which may be 0.
+    Members,
     /// The id char of an object, one of these; a group here would have this depth.
     ObjectId {
         depth: u32,
@@ -64,7 +66,8 @@ impl Kind {
         match self {
             Kind::Flag | Kind::FlowFlag | Kind::Byte { .. } | Kind::MarkerId { .. } => 1,
             Kind::ObjectId { .. } | Kind::Letter { .. } | Kind::Char => 2,
-            Kind::VersionLength | Kind::Integer { .. } | Kind::Count { .. } | Kind::DashCount => 4,
+            Kind::VersionLength | Kind::Integer { .. } => 4,
+            Kind::Count { .. } | Kind::DashCount | Kind::Members => 4,
             Kind::Float | Kind::Component | Kind::Hue => 4,
             Kind::Signature | Kind::VersionChars => 6,
             Kind::Double | Kind::Joined => 8,
@@ -84,6 +87,7 @@ impl Kind {
             Kind::Integer { .. } => "integer",
             Kind::Count { .. } => "count",
             Kind::DashCount => "dash count",
+            Kind::Members => "group's count",
             Kind::ObjectId { .. } => "object id",
             Kind::Letter { .. } => "letter",
             Kind::Char => "char",
@@ -213,7 +217,7 @@ fn group(out: &mut impl Fields, version: Version, group: &Group, depth: u32) {
 
 /// A group's n.
 pub fn group_count(out: &mut impl Fields, group: &Group) {
-    length(out, 1, group.objects.len());
+    out.field(Kind::Members, group.objects.len() as u64);
 }
 
 /// The flow frame flag, and from 1.2 the description.

@@ -3,7 +3,8 @@
 use crate::damage::faults::{faults, Fault};
 use crate::damage::fields::{at_outline, of_file, Field};
 use crate::damage::files::{longer, put};
-use crate::generate::special::{sampler, with_text_path};
+use crate::generate::chars;
+use crate::generate::special::{empty_to_depth, sampler, with_text_path};
 use crate::layout::Kind;
 use crate::model::Drawing;
 use crate::random::Random;
@@ -48,6 +49,7 @@ pub fn add(files: &mut Files, seed: u64) {
         trailing(files, &whole);
     }
     text_paths(files, seed);
+    empty_groups(files, seed);
     named(files, seed);
     orders(files, seed);
 }
@@ -116,7 +118,7 @@ fn all_faults(whole: &Whole) -> Vec<(Field, Fault)> {
 
 /// A count that goes far past the file's end: the next element that is no such element decides.
 fn long_count(files: &mut Files, whole: &Whole, random: &mut Random) {
-    let is_count = |field: &&Field| matches!(field.kind, Kind::Count { .. });
+    let is_count = |field: &&Field| matches!(field.kind, Kind::Count { .. } | Kind::Members);
     let counts: Vec<&Field> = whole.fields.iter().filter(is_count).collect();
     let field = *random.pick(&counts);
     put_long_count(files, whole, field);
@@ -155,6 +157,26 @@ fn text_paths(files: &mut Files, seed: u64) {
             cut(files, &whole, field, field.kind.width() - 1);
         }
         put_long_count(files, &whole, &whole.fields[1]);
+    }
+}
+
+/// Empty groups, the outer one alone and some inside it: each field of theirs cut and at fault; a count of 0 where objects follow, and
+/// of 1 where none does.
+fn empty_groups(files: &mut Files, seed: u64) {
+    for (version, depth) in Version::ALL.into_iter().flat_map(|version| [(version, 1), (version, 3)]) {
+        let mut whole = Whole::of(&empty_to_depth(version, depth, &chars("bay")));
+        let mut random = Random::new(seed + 50);
+        trailing(files, &whole);
+        let is_own =
+            |field: &Field| matches!(field.kind, Kind::Members | Kind::FlowFlag | Kind::Count { .. });
+        whole.fields.retain(is_own);
+        cuts(files, &whole, &mut random);
+        single_faults(files, &whole, &mut random);
+        for field in whole.fields.iter().filter(|field| field.kind == Kind::Members).take(3) {
+            let (old, new) = (field.value, u64::from(field.value == 0));
+            let what = format!("a group's count of {new} for {old} at {}", field.place);
+            whole.add_put(files, &what, field, new);
+        }
     }
 }
 

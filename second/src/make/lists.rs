@@ -4,7 +4,9 @@ use super::{hash, table_data, Case, FILL};
 use crate::answer::Answer;
 use crate::ask;
 use crate::check::{self, Good};
-use crate::generate::special::{of_depth, padded, plain_bitmap, plain_drawing, sampler, with_text_path};
+use crate::generate::special::{
+    self, empty_to_depth, of_depth, padded, plain_bitmap, plain_drawing, sampler, with_text_path,
+};
 use crate::generate::{self, all_labels, chars, Maker};
 use crate::list;
 use crate::model::{Chars, Drawing, Gradient, Object, Paint, Plain, TextPath};
@@ -28,6 +30,7 @@ pub fn cases(seed: u64) -> Vec<Case> {
     paints(&mut all, seed);
     negative_zeros(&mut all, seed);
     text_paths(&mut all, seed);
+    empty_groups(&mut all);
     many_entries(&mut all);
     refused(&mut all, seed);
     all.into_iter().map(case).collect()
@@ -189,13 +192,36 @@ fn text_paths(all: &mut All, seed: u64) {
     }
 }
 
-/// Rows by the hundred, all of them entries; and a drawing at the limit.
+/// Empty groups by their label and by others: the outer one alone, at every depth, and with all labels in turn; and a broken table.
+fn empty_groups(all: &mut All) {
+    let label = chars("bay");
+    for version in Version::ALL {
+        for (name, depth) in [("an empty outer group", 1), ("empty groups to depth 16", 16)] {
+            let drawing = empty_to_depth(version, depth, &label);
+            add(all, &format!("{name}, by its label"), &drawing, &label);
+            add(all, &format!("{name}, by the empty label"), &drawing, &[]);
+        }
+        let mut drawing = empty_to_depth(version, 5, &label);
+        if version.has_descriptions() {
+            describe_all(&mut drawing.outer.objects, &mut 0);
+            add(all, "empty groups with labels in turn", &drawing, &chars("m"));
+        }
+        // The first group that ends is an empty one, and the head has two words.
+        let mut table = table::of(&drawing);
+        table.bodies[2] = 1;
+        let name = format!("1.{}: an empty group holds 1", version.minor());
+        all.push(Asked { name, table, label: Chars::new() });
+    }
+}
+
+/// Rows by the hundred, all of them entries; the most rows there can be; and a drawing at the limit.
 fn many_entries(all: &mut All) {
     let [v0, _, v2, ..] = Version::ALL;
     for (version, count) in [(v0, 300), (v2, 45)] {
         let objects = (0..count).map(|_| Object::Bitmap(plain_bitmap(1))).collect();
         add(all, &format!("{count} bitmaps"), &plain_drawing(version, objects), &[]);
     }
+    add(all, "9,359 groups", &plain_drawing(v0, special::empty_groups(9_358)), &[]);
     let drawing = padded(plain_drawing(v2, vec![Object::Bitmap(plain_bitmap(1))]), 65_535);
     add(all, "a file of 65,535 bytes", &drawing, &[]);
 }

@@ -5,7 +5,8 @@ use crate::answer::Answer;
 use crate::damage::files;
 use crate::generate::edges::{at_ends, every_pairing, every_settings};
 use crate::generate::special::{
-    nan_sampler, of_depth, padded, plain_bitmap, plain_drawing, sampler, with_chains, with_text_path,
+    self, empty_to_depth, nan_sampler, of_depth, padded, plain_bitmap, plain_drawing, sampler, with_chains,
+    with_text_path,
 };
 use crate::generate::{self, chars};
 use crate::model::{Drawing, Object};
@@ -23,6 +24,7 @@ pub fn cases(seed: u64) -> Vec<Case> {
     run_only(&mut files, seed);
     limits(&mut files, seed);
     good(&mut files, seed);
+    empty_groups(&mut files, seed);
     broken::add(&mut files, seed);
     noise(&mut files, seed);
     files.into_iter().map(|(name, data)| Case { name, groups: groups(&data), data }).collect()
@@ -85,6 +87,7 @@ fn limits(files: &mut Files, seed: u64) {
     add(files, "exactly 65,535 bytes, mostly a name", v0, &padded(small.clone(), LONGEST_FILE));
     add(files, "exactly 65,535 bytes, many objects", v5, &padded(large, LONGEST_FILE));
     add(files, "65,536 bytes of a good layout", v0, &padded(small, LONGEST_FILE + 1));
+    add(files, "9,359 rows, the most there can be", v0, &plain_drawing(v0, special::empty_groups(9_358)));
     let mut filled = plans::plan_a();
     filled.resize(LONGEST_FILE + 1, 0);
     files.push(("65,536 bytes, plan A and zeros".into(), filled));
@@ -109,6 +112,20 @@ fn good(files: &mut Files, seed: u64) {
             add(files, "a text along a path", version, &without);
             add(files, "a text along a path, with LaTeX fields", version, &with);
         }
+    }
+}
+
+/// Empty groups: the outer one alone, at every depth and one too deep, and among other objects.
+fn empty_groups(files: &mut Files, seed: u64) {
+    for version in Version::ALL {
+        let to_depth = |depth| empty_to_depth(version, depth, &chars("bay"));
+        add(files, "an empty outer group", version, &to_depth(1));
+        add(files, "empty groups to depth 16", version, &to_depth(16));
+        add(files, "10: an empty group at depth 17", version, &to_depth(17));
+        let mut drawing = generate::drawing(seed + 1, version, 900);
+        let with_one_before = |object| [special::empty_groups(1), vec![object]].concat();
+        drawing.outer.objects = drawing.outer.objects.into_iter().flat_map(with_one_before).collect();
+        add(files, "an empty group before each object", version, &drawing);
     }
 }
 

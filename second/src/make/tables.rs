@@ -7,7 +7,8 @@ use crate::damage::faults::faults;
 use crate::damage::fields::{at_outline, of_bodies, Field};
 use crate::damage::tables::{deep, exchange_bodies, put};
 use crate::generate::special::{
-    nested, of_depth, padded, plain_bitmap, plain_drawing, sampler, with_chains, with_text_path,
+    self, empty_to_depth, nested, of_depth, padded, plain_bitmap, plain_drawing, sampler, with_chains,
+    with_text_path,
 };
 use crate::generate::{self, chars};
 use crate::layout::Kind;
@@ -34,6 +35,7 @@ pub fn cases(seed: u64) -> Vec<Case> {
         broken_fields(&mut tables, &drawing, &of_bodies(&drawing), seed + 7);
         other_minor(&mut tables, &drawing);
         text_paths(&mut tables, version, seed);
+        empty_groups(&mut tables, version);
     }
     exchanged(&mut tables);
     ended_parent(&mut tables);
@@ -96,6 +98,8 @@ fn limits(tables: &mut Tables, seed: u64) {
         let drawing = padded(plain_drawing(v5, vec![bitmap()]), length);
         add(tables, v5, &format!("its file has {length} bytes"), table::of(&drawing));
     }
+    let most_rows = plain_drawing(v0, special::empty_groups(9_358));
+    add(tables, v0, "9,359 rows, the most there can be", table::of(&most_rows));
     for depth in [16, 17] {
         for version in [v0, v4, v5] {
             let drawing = of_depth(version, depth, &chars("deep"));
@@ -170,12 +174,13 @@ fn broken_fields(tables: &mut Tables, drawing: &Drawing, fields: &[Field], seed:
     let version = drawing.version;
     let table = table::of(drawing);
     let mut random = Random::new(seed + u64::from(version.minor()));
-    let kinds: [(&str, Wanted); 10] = [
+    let kinds: [(&str, Wanted); 11] = [
         ("flag", |kind| kind == Kind::Flag),
         ("flow flag", |kind| kind == Kind::FlowFlag),
         ("byte", |kind| matches!(kind, Kind::Byte { .. })),
         ("marker id", |kind| matches!(kind, Kind::MarkerId { .. })),
         ("count", |kind| matches!(kind, Kind::Count { .. })),
+        ("group's count", |kind| kind == Kind::Members),
         ("letter", |kind| matches!(kind, Kind::Letter { .. })),
         ("component or hue", |kind| kind == Kind::Component || kind == Kind::Hue),
         ("start", |kind| kind == Kind::Joined),
@@ -242,12 +247,37 @@ fn broken_text_path(tables: &mut Tables, drawing: &Drawing, seed: u64) {
     }
 }
 
+/// Empty groups, the outer one alone, at every depth and one too deep; and a table of some that is broken.
+fn empty_groups(tables: &mut Tables, version: Version) {
+    let to_depth = |depth| table::of(&empty_to_depth(version, depth, &chars("bay")));
+    add(tables, version, "an empty outer group", to_depth(1));
+    add(tables, version, "empty groups to depth 16", to_depth(16));
+    add(tables, version, "an empty group at depth 17", to_depth(17));
+    // Rows: the outer group, an empty one, one that holds the three empty ones after it, an empty one.
+    let table = to_depth(3);
+    let count_of = |row: usize| table.contents[row * ROW + 2] as usize;
+    for (name, row, n) in [("holds 1", 1, 1), ("holds -1", 1, u32::MAX), ("has objects but holds 0", 2, 0)] {
+        let mut table = table.clone();
+        table.bodies[count_of(row)] = n;
+        add(tables, version, &format!("a group {name}"), table);
+    }
+    let mut inside = table.clone();
+    inside.contents[2 * ROW + 1] = 1;
+    add(tables, version, "an object inside an empty group", inside.clone());
+    inside.bodies[count_of(1)] += 1;
+    inside.bodies[count_of(0)] -= 1;
+    add(tables, version, "an object inside a group whose body comes first", inside);
+    let mut exchanged = table.clone();
+    exchange_bodies(&mut exchanged, 3, 4);
+    add(tables, version, "bodies of empty groups exchanged", exchanged);
+}
+
 /// A fault of the field; a count one off, up or down; for a narrow field a bit above its own; a free one changed.
 fn other_value(random: &mut Random, name: &str, field: &Field) -> u64 {
     let faults = faults(field.kind, field.value);
     match name {
-        "count" if field.value == 0 || random.flag() => field.value + 1,
-        "count" => field.value - 1,
+        "count" | "group's count" if field.value == 0 || random.flag() => field.value + 1,
+        "count" | "group's count" => field.value - 1,
         "narrow" => field.value | 1 << (8 * field.kind.width()),
         _ if faults.is_empty() => field.value ^ 1,
         _ => random.pick(&faults).value,

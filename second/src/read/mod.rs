@@ -1,4 +1,4 @@
-//! From the bytes of a file to the drawing, or to the refusal (01, 'Fields' and 'Numbers given back'; 02, R-1).
+//! From the bytes of a file to the drawing, or to the refusal (01, 'Fields' and 'Numbers given back'; 02, R-1 and R-2).
 //!
 //! The fields are read in file order and each is judged at once, so the first fault decides.
 

@@ -1,4 +1,4 @@
-//! Objects (01, 'Object'; 02, R-1): id char, specs, flow frame flag, and from 1.2 a description string.
+//! Objects (01, 'Object'; 02, R-1 and R-2): id char, specs, flow frame flag, and from 1.2 a description string.
 
 use super::field::{refusal, Source, Taken};
 use super::{paint, style};
@@ -21,9 +21,9 @@ fn object(source: &mut Source, version: Version, around: u32) -> Taken<Object> {
     }
 }
 
-/// Integer n, at least 1, then n objects; the flag and description come after its objects.
+/// Integer n, not negative, then n objects; the flag and description come after its objects. 'A group may have 0 objects.'
 pub fn group(source: &mut Source, version: Version, depth: u32) -> Taken<Group> {
-    let n = source.count(1)?;
+    let n = source.count(0)?;
     let mut objects = Vec::new();
     for _ in 0..n {
         objects.push(object(source, version, depth)?);

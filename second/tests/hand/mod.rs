@@ -121,6 +121,33 @@ pub const TEXT_PATH_1_5: [u32; 57] = [
     1, 0, 0, // group
 ];
 
+/// Version 1.0, an empty group and nothing else: the smallest file, 24 bytes.
+pub fn empty_1_0() -> Vec<u8> {
+    Hand::head("1.0").byte(0).chars("G").integer(0).byte(0).0 // 0, 16, 17, 19, flow flag 23
+}
+
+/// Version 1.2, empty groups before, inside and after another group; 84 bytes.
+pub fn empty_1_2() -> Vec<u8> {
+    let mut hand = Hand::head("1.2").byte(0).chars("G").integer(3); // 0, 16, 17, 19
+    hand = hand.chars("G").integer(0).byte(0).string("bay"); // 23, 25, 29, 30, chars 34 to 39
+    hand = hand.chars("G").integer(1); // 40, 42
+    hand = hand.chars("G").integer(0).byte(0).string("bay"); // 46, 48, 52, 53, chars 57 to 62
+    hand = hand.byte(0).string(""); // 63, 64
+    hand = hand.chars("G").integer(0).byte(0).string(""); // 68, 70, 74, 75
+    hand.byte(0).string("").0 // 79, 80
+}
+
+/// The words of these groups, in the order in which they end: head 2, bodies 6, 6, 3, 3, 3.
+#[rustfmt::skip]
+pub const EMPTY_1_2: [u32; 23] = [
+    2, 0, // head
+    0, 0, 3, 0x62, 0x61, 0x79, // row 1, empty
+    0, 0, 3, 0x62, 0x61, 0x79, // row 3, empty, inside row 2
+    1, 0, 0, // row 2
+    0, 0, 0, // row 4, empty
+    3, 0, 0, // the outer group
+];
+
 /// Version 1.1, one bitmap with the two strings, inside two groups; the inner one ends first.
 pub fn bitmap_1_1() -> Vec<u8> {
     let mut hand = Hand::head("1.1").byte(0).chars("G").integer(2); // 0, 16, 17, 19

@@ -64,7 +64,8 @@ heads =
     ∷ file "4" (byte 0 ∷ char "P" ∷ []) 7 17
     ∷ file "3" (byte 2 ∷ byte 72 ∷ char "g" ∷ []) 7 18
     ∷ file "1" (flag 0 ∷ byte 255 ∷ []) 2 17
-    ∷ file "0" (flag 0 ∷ char "G" ∷ int 0 ∷ []) 8 19
+    ∷ file "0" (flag 0 ∷ char "G" ∷ int 0 ∷ []) 2 23
+    ∷ file "0" (flag 0 ∷ char "G" ∷ int 0xFFFF_FFFF ∷ []) 8 19
     ∷ file "3" (byte 0 ∷ char "G" ∷ int 0xFFFF_FFFF ∷ []) 8 19
     ∷ file "2" (byte 0 ∷ char "G" ∷ byte 255 ∷ []) 2 19
     ∷ []
@@ -77,7 +78,7 @@ objects =
     ∷ object "4" (coded [] ∷ []) 7 23
     ∷ object "0" (byte 1 ∷ []) 2 23
     -- an inner group's count
-    ∷ object "0" (char "G" ∷ int 0 ∷ []) 8 25
+    ∷ object "0" (char "G" ∷ int 0xFFFF_FFFF ∷ []) 8 25
     ∷ object "4" (char "G" ∷ int 0x8000_0000 ∷ []) 8 25
     -- a bitmap's name: a cut string is missing its next char, and a count is not held against the bytes left
     ∷ object "0" (char "I" ∷ int 0 ∷ []) 8 25
@@ -116,6 +117,13 @@ objects =
     ∷ object "4" (times 15 (char "G" ∷ int 1 ∷ []) ++ bitmap ++ flag 0 ∷ string "" ∷ times 16 (flag 0 ∷ string "" ∷ [])) 0 255
     ∷ object "0" (times 16 (char "G" ∷ int 1 ∷ []) ++ bitmap ++ flag 0 ∷ times 17 (flag 0 ∷ [])) 10 113
     ∷ object "4" (times 15 (char "G" ∷ int 1 ∷ []) ++ char "G" ∷ int 0 ∷ []) 10 113
+    -- empty groups: the smallest file, at the greatest depth, at the next, one with a bitmap behind it
+    ∷ file "0" (flag 0 ∷ char "G" ∷ int 0 ∷ flag 0 ∷ []) 0 24
+    ∷ file "5" (byte 0 ∷ char "G" ∷ int 0 ∷ flag 0 ∷ string "" ∷ []) 0 28
+    ∷ object "0" (times 14 (char "G" ∷ int 1 ∷ []) ++ char "G" ∷ int 0 ∷ times 16 (flag 0 ∷ [])) 0 129
+    ∷ object "0" (times 15 (char "G" ∷ int 1 ∷ []) ++ char "G" ∷ int 0 ∷ times 17 (flag 0 ∷ [])) 10 113
+    ∷ file "0" (flag 0 ∷ char "G" ∷ int 2 ∷ char "G" ∷ int 0 ∷ flag 0 ∷ bitmap ++ flag 0 ∷ flag 0 ∷ []) 0 89
+    ∷ object "0" (char "G" ∷ int 0 ∷ flag 1 ∷ []) 11 29
     ∷ object "2" (times 15 (char "G" ∷ int 1 ∷ []) ++ char "H" ∷ []) 7 113
     ∷ object "2" (times 15 (char "G" ∷ int 1 ∷ []) ++ byte 0 ∷ []) 2 113
     -- depth 17 where an object of depth 16 has ended
