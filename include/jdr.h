@@ -37,7 +37,8 @@ enum {
     JDR_BODIES_TOO_SHORT = 15,   /* the same */
     JDR_NO_TABLE = 16,           /* no acceptable file gives this table; offset and counts are 0 */
     JDR_OUTPUT_TOO_SHORT = 17,   /* the offset is the bytes needed; the counts are 0 */
-    JDR_LIST_TOO_SHORT = 18      /* the offset is the entries needed; the counts are 0 */
+    JDR_LIST_TOO_SHORT = 18,     /* the offset is the entries needed; the counts are 0 */
+    JDR_NOT_A_NUMBER = 20        /* of jdr_box: a coordinate is a NaN */
 };
 
 /* A longer file is refused. */
@@ -102,6 +103,12 @@ struct jdr_text {
     uint32_t number, alternative_start, alternative_length, text_start, text_length;
 };
 
+/* What jdr_box answers: a number, and the least x and y and the greatest x and y. With a refusal all four are +0. */
+struct jdr_box {
+    uint32_t number;
+    double left, bottom, right, top;
+};
+
 /* Reads a file into a table: contents, a row an object in the order in which objects open, and bodies, which begin with the minor version
  * number and the settings. 0 to 15. Room for rows is whole rows. A call with no room gives the counts needed (14), or the refusal. */
 struct jdr_answer jdr_read(const uint8_t *file, size_t file_len, uint32_t *contents, size_t contents_len, uint32_t *bodies,
@@ -119,7 +126,7 @@ struct jdr_answer jdr_write(const uint32_t *contents, size_t contents_len, const
 struct jdr_answer jdr_list(const uint32_t *contents, size_t contents_len, const uint32_t *bodies, size_t bodies_len, const uint16_t *label,
                            size_t label_len, uint32_t *entries, size_t entries_len);
 
-/* The numbers of the two questions about a row are others: */
+/* The numbers of the three questions about a row are others: */
 enum {
     JDR_NO_ROW = 6,              /* the table has no such row */
     JDR_NO_PART = 7              /* the row's object has no such part */
@@ -131,6 +138,11 @@ struct jdr_paint jdr_paint(const uint32_t *contents, size_t contents_len, const 
 
 /* Where the chars of a text, or of a text along a path, stand: a row of a table, whose used words are lent exactly. 0; 16, then 6, then 7. */
 struct jdr_text jdr_text(const uint32_t *contents, size_t contents_len, const uint32_t *bodies, size_t bodies_len, uint32_t row);
+
+/* The box around the outline of a path, or of a text along a path: over its start and every point of every segment, control points
+ * included. Of equal coordinates the first is kept, 0 and -0 among them; nothing is rounded, and infinities are allowed. The table's used
+ * words are lent exactly. 0; 16, then 6, then 7, then 20. */
+struct jdr_box jdr_box(const uint32_t *contents, size_t contents_len, const uint32_t *bodies, size_t bodies_len, uint32_t row);
 
 #ifdef __cplusplus
 }

@@ -1,5 +1,5 @@
 /* Reads a plan. Without a label its table is checked, written back and compared with the file; with one, the objects that have it for their
- * description are listed, each with the groups around it, and of a text what is shown: plan FILE [LABEL]. */
+ * description are listed, each with the groups around it, of a path its box, and of a text what is shown: plan FILE [LABEL]. */
 #include <stdio.h>
 #include <stdlib.h>
 #include <string.h>
@@ -92,6 +92,16 @@ static const char *kind_name(uint32_t kind)
     }
 }
 
+/* The box around a path, or around the path of a text along one: left, bottom, right and top. A row with no path prints nothing. */
+static void print_box(const struct table *table, uint32_t row)
+{
+    struct jdr_box box = jdr_box(table->contents, table->contents_len, table->bodies, table->bodies_len, row);
+    if (box.number == JDR_ACCEPTED)
+        printf(" box %.2f %.2f %.2f %.2f", box.left, box.bottom, box.right, box.top);
+    else if (box.number == JDR_NOT_A_NUMBER)
+        printf(" box not a number");
+}
+
 /* What is shown of a text, along a path or not: the LaTeX alternative if it has a char, otherwise the text itself. A row that is no text
  * prints nothing. */
 static void print_shown(const struct table *table, uint32_t row)
@@ -117,6 +127,7 @@ static void print_row(const struct table *table, uint32_t entry)
         row = table->contents[(size_t)row * JDR_ROW_WORDS + 1];
         printf(" %u", (unsigned)row);
     }
+    print_box(table, entry);
     print_shown(table, entry);
     putchar('\n');
 }

@@ -10,6 +10,7 @@ import sys
 ACCEPTED = 0
 CONTENTS_TOO_SHORT = 14
 LIST_TOO_SHORT = 18
+NOT_A_NUMBER = 20
 ROW_WORDS = 4  # kind, parent, start, length
 KINDS = {1: "group", 2: "path", 3: "text", 4: "bitmap", 5: "textpath"}
 
@@ -24,6 +25,12 @@ class Text(ctypes.Structure):
     """A number, and where in the bodies the chars of a text's LaTeX alternative and its own stand, one a word."""
 
     _fields_ = [(name, ctypes.c_uint32) for name in ("number", "alternative_start", "alternative_length", "text_start", "text_length")]
+
+
+class Box(ctypes.Structure):
+    """A number, and the box around a path: the least x and y, then the greatest x and y."""
+
+    _fields_ = [("number", ctypes.c_uint32)] + [(name, ctypes.c_double) for name in ("left", "bottom", "right", "top")]
 
 
 _library = ctypes.CDLL(os.environ.get("JDR_LIBRARY", "libjdr_c.so"))
@@ -69,4 +76,5 @@ read = _call("jdr_read", 3)  # file, contents, bodies
 check = _call("jdr_check", 2)  # contents, bodies
 write = _call("jdr_write", 3)  # contents, bodies, file
 list = _call("jdr_list", 4)  # contents, bodies, label, entries
+box = _call("jdr_box", 2, Box, 1)  # contents, bodies, row
 text = _call("jdr_text", 2, Text, 1)  # contents, bodies, row

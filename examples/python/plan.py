@@ -1,5 +1,5 @@
 """Reads a plan. Without a label its table is checked, written back and compared with the file; with one, the objects that have it for
-their description are listed, each with the groups around it, and of a text what is shown: plan.py FILE [LABEL].
+their description are listed, each with the groups around it, of a path its box, and of a text what is shown: plan.py FILE [LABEL].
 """
 
 import os
@@ -41,6 +41,18 @@ def groups_around(contents, row):
         yield row
 
 
+def box(table, row):
+    """The box around a path, or around the path of a text along one, as words to print: left, bottom, right and top. None for a row with no
+    path.
+    """
+    sides = jdr.box(*table, row)
+    if sides.number == jdr.NOT_A_NUMBER:
+        return ["box not a number"]
+    if sides.number != jdr.ACCEPTED:
+        return []
+    return ["box"] + [f"{side:.2f}" for side in (sides.left, sides.bottom, sides.right, sides.top)]
+
+
 def shown(table, row):
     """What is shown of a text, along a path or not, as words to print: the LaTeX alternative if it has a char, otherwise the text. None for
     a row that is no text.
@@ -65,7 +77,8 @@ def list_label(table, label):
     contents = table[0]
     for row in entries[: answer.rows]:
         kind = jdr.KINDS[contents[row * jdr.ROW_WORDS]]
-        print(f"row {row} {kind} inside", *groups_around(contents, row) if row else ["no group"], *shown(table, row))
+        inside = groups_around(contents, row) if row else ["no group"]
+        print(f"row {row} {kind} inside", *inside, *box(table, row), *shown(table, row))
     return answer.number == jdr.ACCEPTED
 
 

@@ -21,12 +21,25 @@ pub struct Text {
     pub text_length: u32,
 }
 
+/// The box around a path: the least x and y, then the greatest x and y.
+#[repr(C)]
+#[derive(Clone, Copy, Debug, PartialEq)]
+pub struct Extent {
+    pub number: u32,
+    pub left: f64,
+    pub bottom: f64,
+    pub right: f64,
+    pub top: f64,
+}
+
 /// The number of a call that is done.
 pub const ACCEPTED: u32 = 0;
 /// The number of a read that has no room for its rows.
 pub const CONTENTS_TOO_SHORT: u32 = 14;
 /// The number of a listing that has no room for its entries.
 pub const LIST_TOO_SHORT: u32 = 18;
+/// The number of a box of which a coordinate is a NaN.
+pub const NOT_A_NUMBER: u32 = 20;
 /// The words of a row of the contents: kind, parent, start, length.
 pub const ROW_WORDS: usize = 4;
 /// The kinds of rows.
@@ -36,7 +49,7 @@ pub const TEXT: u32 = 3;
 pub const BITMAP: u32 = 4;
 
 mod c {
-    use super::{Answer, Text};
+    use super::{Answer, Extent, Text};
 
     #[link(name = "jdr_c", kind = "static")]
     extern "C" {
@@ -72,6 +85,13 @@ mod c {
             entries: *mut u32,
             entries_len: usize,
         ) -> Answer;
+        pub fn jdr_box(
+            contents: *const u32,
+            contents_len: usize,
+            bodies: *const u32,
+            bodies_len: usize,
+            row: u32,
+        ) -> Extent;
         pub fn jdr_text(
             contents: *const u32,
             contents_len: usize,
@@ -127,6 +147,11 @@ pub fn list(contents: &[u32], bodies: &[u32], label: &[u16], entries: &mut [u32]
             entries.len(),
         )
     }
+}
+
+/// `jdr_box`, whose name is a word of the language here.
+pub fn extent(contents: &[u32], bodies: &[u32], row: u32) -> Extent {
+    unsafe { c::jdr_box(contents.as_ptr(), contents.len(), bodies.as_ptr(), bodies.len(), row) }
 }
 
 pub fn text(contents: &[u32], bodies: &[u32], row: u32) -> Text {

@@ -1,5 +1,5 @@
 //! Reads a plan. Without a label its table is checked, written back and compared with the file; with one, the objects that have it for
-//! their description are listed, each with the groups around it, and of a text what is shown: plan FILE [LABEL].
+//! their description are listed, each with the groups around it, of a path its box, and of a text what is shown: plan FILE [LABEL].
 
 mod jdr;
 
@@ -50,6 +50,19 @@ fn kind_name(kind: u32) -> &'static str {
     }
 }
 
+/// The box around a path, or around the path of a text along one: left, bottom, right and top. A row with no path has none.
+fn box_of(table: &Table, row: u32) -> Option<String> {
+    let extent = jdr::extent(&table.contents, &table.bodies, row);
+    match extent.number {
+        jdr::ACCEPTED => {
+            let jdr::Extent { left, bottom, right, top, .. } = extent;
+            Some(format!("{left:.2} {bottom:.2} {right:.2} {top:.2}"))
+        }
+        jdr::NOT_A_NUMBER => Some("not a number".to_string()),
+        _ => None,
+    }
+}
+
 /// What is shown of a text, along a path or not: the LaTeX alternative if it has a char, otherwise the text itself. A row that is no text
 /// has none.
 fn shown(table: &Table, row: u32) -> Option<String> {
@@ -74,6 +87,9 @@ fn print_row(table: &Table, entry: u32) {
     while row != 0 {
         row = word(row, 1);
         print!(" {row}");
+    }
+    if let Some(sides) = box_of(table, entry) {
+        print!(" box {sides}");
     }
     if let Some(shown) = shown(table, entry) {
         print!(" shows {shown}");

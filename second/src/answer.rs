@@ -51,6 +51,17 @@ pub struct TextAnswer {
     pub text_length: u32,
 }
 
+/// The answer of the box question: the least x and y, then the greatest x and y.
+#[repr(C)]
+#[derive(Clone, Copy, Debug, Default)]
+pub struct BoxAnswer {
+    pub number: u32,
+    pub left: f64,
+    pub bottom: f64,
+    pub right: f64,
+    pub top: f64,
+}
+
 impl PaintAnswer {
     /// With a refusal the paint is transparent and all else 0.
     pub fn refused(number: u32) -> PaintAnswer {
@@ -83,5 +94,23 @@ impl TextAnswer {
     /// The struct's words in order.
     pub fn words(&self) -> [u32; 5] {
         [self.number, self.alternative_start, self.alternative_length, self.text_start, self.text_length]
+    }
+}
+
+impl BoxAnswer {
+    /// With a refusal the box is of positive zeros.
+    pub fn refused(number: u32) -> BoxAnswer {
+        BoxAnswer { number, ..BoxAnswer::default() }
+    }
+
+    /// The number, then the bits of the four doubles, high half first: -0 and 0 differ.
+    pub fn words(&self) -> [u32; 9] {
+        let mut words = [self.number; 9];
+        let sides = [self.left, self.bottom, self.right, self.top];
+        for (halves, side) in words[1..].chunks_exact_mut(2).zip(sides) {
+            let bits = side.to_bits();
+            halves.copy_from_slice(&[(bits >> 32) as u32, bits as u32]);
+        }
+        words
     }
 }

@@ -12,7 +12,7 @@ use crate::table::Words;
 use crate::version::Version;
 
 /// The row's object, or the refusal's number.
-fn object<'a>(good: Option<&'a Good>, row: u32) -> Result<(&'a Good, Opened<'a>), u32> {
+pub fn object<'a>(good: Option<&'a Good>, row: u32) -> Result<(&'a Good, Opened<'a>), u32> {
     let good = good.ok_or(16u32)?;
     let mut objects = opened(&good.drawing);
     if row as usize >= objects.len() {
@@ -26,7 +26,8 @@ pub fn paint(good: Option<&Good>, row: u32, which: u32) -> PaintAnswer {
     let found = object(good, row).and_then(|(_, object)| match (object.part, which) {
         (Part::Path(path), 0) => Ok(&path.line),
         (Part::Path(path), 1) => Ok(&path.fill),
-        (Part::Text(text) | Part::TextPath(text), 2) => Ok(&text.paint),
+        (Part::Text(text), 2) => Ok(&text.paint),
+        (Part::TextPath(along), 2) => Ok(&along.text.paint),
         _ => Err(7),
     });
     match found {
@@ -79,7 +80,8 @@ pub fn text(good: Option<&Good>, row: u32) -> TextAnswer {
         Err(number) => TextAnswer::refused(number),
         Ok((good, object)) => match object.part {
             Part::Text(text) => text_answer(good, row, text, 0),
-            Part::TextPath(text) => {
+            Part::TextPath(along) => {
+                let text = &along.text;
                 text_answer(good, row, text, paint_words(good.drawing.version, &text.paint))
             }
             _ => TextAnswer::refused(7),

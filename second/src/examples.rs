@@ -1,9 +1,10 @@
 //! The plans of the example programs (`../examples`), and the lines that these programs have to print. The lines come from the drawing
 //! as a tree: what is inside what is never taken from a table's parent numbers, which the programs follow.
 
-use crate::answer::Answer;
+use crate::answer::{Answer, BoxAnswer};
 use crate::ask;
 use crate::check;
+use crate::extent;
 use crate::generate::chars;
 use crate::generate::special::plain_bitmap;
 use crate::list::{self, Part};
@@ -26,6 +27,7 @@ pub fn plans() -> Vec<(&'static str, Vec<u8>)> {
         ("bays.jdr", write::file(&bays())),
         ("cut.jdr", cut),
         ("hall.jdr", hall),
+        ("places.jdr", write::file(&places())),
         ("plan-a.jdr", plans::plan_a()),
     ]
 }
@@ -55,6 +57,29 @@ fn bays() -> Drawing {
     let mill = Object::Text(with_alternative(text("Mill", mill), "\\emph{Mill} 🔧"));
     let unnamed = group("", vec![aisle, group("bay", vec![]), mill]);
     let outer = Group { objects: vec![inner, unnamed], description: chars("bay") };
+    Drawing { version, settings: Settings::None, outer }
+}
+
+/// Boxes: of a curve whose control points lie furthest out; of a path that begins at -0 and goes to infinity; none of a path with a NaN; and
+/// of a text along a path with a NaN in its transformation, which is no coordinate.
+fn places() -> Drawing {
+    let [.., version] = Version::ALL;
+    let curve = Segment::Bezier([point(12.5, -3.25), point(90.75, 4.0), point(20.0, 8.5)]);
+    let far = [point(0.0, f64::NEG_INFINITY), point(f64::INFINITY, 1.0)].map(Segment::Line);
+    let lost = [point(5.0, 5.0), point(6.0, f64::NAN)].map(Segment::Move);
+    let open_path = |start, segments: &[Segment], label| {
+        let outline = Outline { closed: false, start, segments: segments.to_vec() };
+        outlined(outline, Plain::Rgb([ONE, 0, 0, ONE]), Plain::Transparent, label)
+    };
+    let mut turned = text("Robot", "machine");
+    turned.style.transformation[0] = f64::NAN.to_bits();
+    let objects = vec![
+        open_path(point(10.0, 2.0), &[curve], "machine"),
+        open_path(point(-0.0, 0.0), &far, "bay"),
+        open_path(point(4.0, 4.0), &lost, "press"),
+        along(turned),
+    ];
+    let outer = Group { objects: vec![group("bay", objects)], description: chars("places") };
     Drawing { version, settings: Settings::None, outer }
 }
 
@@ -110,9 +135,12 @@ fn along(text: Text) -> Object {
     Object::TextPath(TextPath { text, outline: rectangle() })
 }
 
+fn point(x: f64, y: f64) -> Point {
+    Point { x: x.to_bits(), y: y.to_bits() }
+}
+
 /// Three sides of a rectangle, which the path closes.
 fn rectangle() -> Outline {
-    let point = |x: f64, y: f64| Point { x: x.to_bits(), y: y.to_bits() };
     let corners = [point(40.0, 0.0), point(40.0, 20.0), point(0.0, 20.0)];
     Outline {
         closed: true,
@@ -121,8 +149,12 @@ fn rectangle() -> Outline {
     }
 }
 
-/// A rectangle; from 1.1, since it has markers of that sort.
 fn path(line: Plain, fill: Plain, description: &str) -> Object {
+    outlined(rectangle(), line, fill, description)
+}
+
+/// A path that runs there; from 1.1, since it has markers of that sort.
+fn outlined(outline: Outline, line: Plain, fill: Plain, description: &str) -> Object {
     Object::Path(Path {
         line: Paint::Plain(line),
         fill: Paint::Plain(fill),
@@ -135,7 +167,7 @@ fn path(line: Plain, fill: Plain, description: &str) -> Object {
             winding: 0,
             markers: Markers::Chains { start: vec![], mid: vec![], end: vec![] },
         },
-        outline: rectangle(),
+        outline,
         description: chars(description),
     })
 }
@@ -176,18 +208,31 @@ fn shows(text: &Text) -> String {
     format!(" shows {}", String::from_utf16_lossy(shown))
 }
 
-/// An object with its kind and the groups around it, the innermost first, and the text to show of a text.
+/// The box around a path, or that it has none; nothing of an object without a path.
+fn box_of(drawing: &Drawing, part: &Part) -> String {
+    match extent::outline_of(part).map(|outline| extent::around(drawing.version, outline)) {
+        None => String::new(),
+        Some(Err(_)) => " box not a number".to_string(),
+        Some(Ok(BoxAnswer { left, bottom, right, top, .. })) => {
+            format!(" box {left:.2} {bottom:.2} {right:.2} {top:.2}")
+        }
+    }
+}
+
+/// An object with its kind and the groups around it, the innermost first, the box around a path, and the text to show of a text.
 fn row_line(drawing: &Drawing, row: u32) -> String {
-    let (kind, text) = match list::opened(drawing)[row as usize].part {
+    let part = list::opened(drawing)[row as usize].part;
+    let (kind, text) = match part {
         Part::Group => ("group", None),
         Part::Path(_) => ("path", None),
         Part::Text(text) => ("text", Some(text)),
         Part::Bitmap => ("bitmap", None),
-        Part::TextPath(text) => ("textpath", Some(text)),
+        Part::TextPath(along) => ("textpath", Some(&along.text)),
     };
+    let extent = box_of(drawing, &part);
     let shows = text.map_or(String::new(), shows);
     let around = &list::groups_around(drawing)[row as usize];
     let around: Vec<String> = around.iter().map(u32::to_string).collect();
     let inside = if around.is_empty() { "no group".to_string() } else { around.join(" ") };
-    format!("row {row} {kind} inside {inside}{shows}\n")
+    format!("row {row} {kind} inside {inside}{extent}{shows}\n")
 }

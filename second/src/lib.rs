@@ -10,6 +10,7 @@ pub mod check;
 pub mod damage;
 pub mod direct;
 pub mod examples;
+pub mod extent;
 pub mod generate;
 pub mod layout;
 pub mod list;

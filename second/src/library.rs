@@ -1,7 +1,7 @@
 //! The linked library: the C functions of the interface. A call that has a feature of its own is None without it, since a library
 //! that lacks the call could not be linked.
 
-use second::answer::{Answer, PaintAnswer, TextAnswer};
+use second::answer::{Answer, BoxAnswer, PaintAnswer, TextAnswer};
 
 #[link(name = "jdr_c", kind = "static")]
 extern "C" {
@@ -36,6 +36,15 @@ extern "C" {
         entries: *mut u32,
         entries_len: usize,
     ) -> Answer;
+
+    #[cfg(feature = "box")]
+    fn jdr_box(
+        contents: *const u32,
+        contents_len: usize,
+        bodies: *const u32,
+        bodies_len: usize,
+        row: u32,
+    ) -> BoxAnswer;
 
     #[cfg(feature = "paint")]
     fn jdr_paint(
@@ -90,6 +99,17 @@ pub fn list(
 
 #[cfg(not(feature = "list"))]
 pub fn list(_: Given<u32>, _: Given<u32>, _: Given<u16>, _: Lent<u32>) -> Option<Answer> {
+    None
+}
+
+/// `jdr_box`, whose name is a word of the language here.
+#[cfg(feature = "box")]
+pub fn extent(contents: Given<u32>, bodies: Given<u32>, row: u32) -> Option<BoxAnswer> {
+    Some(unsafe { jdr_box(contents.0, contents.1, bodies.0, bodies.1, row) })
+}
+
+#[cfg(not(feature = "box"))]
+pub fn extent(_: Given<u32>, _: Given<u32>, _row: u32) -> Option<BoxAnswer> {
     None
 }
 

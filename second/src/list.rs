@@ -2,7 +2,7 @@
 
 use crate::answer::Answer;
 use crate::check::Good;
-use crate::model::{Drawing, Group, Object, Path, Text};
+use crate::model::{Drawing, Group, Object, Path, Text, TextPath};
 
 /// What an object is, as far as the questions need it.
 #[derive(Clone, Copy)]
@@ -11,7 +11,7 @@ pub enum Part<'a> {
     Path(&'a Path),
     Text(&'a Text),
     Bitmap,
-    TextPath(&'a Text),
+    TextPath(&'a TextPath),
 }
 
 /// An object of the drawing; its row number is its place in the list of those that open.
@@ -41,7 +41,7 @@ fn open_object<'a>(list: &mut Vec<Opened<'a>>, object: &'a Object) {
         Object::Path(path) => Part::Path(path),
         Object::Text(text) => Part::Text(text),
         Object::Bitmap(_) => Part::Bitmap,
-        Object::TextPath(along) => Part::TextPath(&along.text),
+        Object::TextPath(along) => Part::TextPath(along),
     };
     list.push(Opened { part, description: object.description() });
 }

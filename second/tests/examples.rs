@@ -16,14 +16,17 @@ fn rows(plan: &str, label: &str) -> Vec<String> {
 
 #[test]
 fn labels_at_several_depths() {
-    let machines =
-        ["row 2 bitmap inside 1 0", "row 3 path inside 1 0", "row 6 text inside 5 4 0 shows Press"];
+    let machines = [
+        "row 2 bitmap inside 1 0",
+        "row 3 path inside 1 0 box 0.00 0.00 40.00 20.00",
+        "row 6 text inside 5 4 0 shows Press",
+    ];
     assert_eq!(rows("hall.jdr", "machine"), machines);
     let bays = [
         "row 0 group inside no group",
         "row 1 group inside 0",
         "row 2 text inside 1 0 shows Bay",
-        "row 6 path inside 5 4 0",
+        "row 6 path inside 5 4 0 box 0.00 0.00 40.00 20.00",
         "row 7 group inside 4 0",
     ];
     assert_eq!(rows("bays.jdr", "bay"), bays);
@@ -31,9 +34,25 @@ fn labels_at_several_depths() {
 
 #[test]
 fn texts_along_paths() {
-    let lines = ["row 2 text inside 1 0 shows Line 2", "row 3 textpath inside 1 0 shows Aisle 2"];
+    let lines = [
+        "row 2 text inside 1 0 shows Line 2",
+        "row 3 textpath inside 1 0 box 0.00 0.00 40.00 20.00 shows Aisle 2",
+    ];
     assert_eq!(rows("aisles.jdr", "line 2"), lines);
-    assert_eq!(rows("aisles.jdr", "machine"), ["row 4 textpath inside 0 shows \\textbf{Robot}"]);
+    let machine = ["row 4 textpath inside 0 box 0.00 0.00 40.00 20.00 shows \\textbf{Robot}"];
+    assert_eq!(rows("aisles.jdr", "machine"), machine);
+}
+
+#[test]
+fn boxes_of_paths() {
+    let machines = [
+        "row 2 path inside 1 0 box 10.00 -3.25 90.75 8.50",
+        "row 5 textpath inside 1 0 box 0.00 0.00 40.00 20.00 shows Robot",
+    ];
+    assert_eq!(rows("places.jdr", "machine"), machines);
+    let bay = ["row 1 group inside 0", "row 3 path inside 1 0 box -0.00 -inf inf 1.00"];
+    assert_eq!(rows("places.jdr", "bay"), bay);
+    assert_eq!(rows("places.jdr", "press"), ["row 4 path inside 1 0 box not a number"]);
 }
 
 #[test]

@@ -10,12 +10,14 @@ use Rattle.drawing.specs.declared.PaintAnswer.{PaintAnswer}
 use Rattle.drawing.specs.declared.PaintAnswer.the-variants.{Refused}
 use Rattle.drawing.specs.declared.Which.{Which}
 use Rattle.drawing.specs.declared.TextAnswer.{TextAnswer}
+use Rattle.drawing.specs.declared.ExtentAnswer.{ExtentAnswer}
 use Rattle.drawing.specs.String.{String}
 use Rattle.drawing.specs.Drawing.{Drawing}
 use Rattle.drawing.specs.Reading.{Reading, drawing, refusal, drawingOf}
 use Rattle.drawing.specs.Table.{startIn}
 use Rattle.drawing.specs.TableDrawing.{drawingOfTable}
 use Rattle.drawing.specs.Answers.{ReadResult, unread, roomFault, stored, tableRefused, tableChecked, Output, nothingStored, tableWritten, tableListed}
+use Rattle.drawing.specs.Extent.{ExtentGiven, noExtent, extentAsked}
 use Rattle.drawing.specs.Questions.{partOf, paintAsked, TextGiven, noText, textPart, textPlaces}
 
 -- What a call comes to for the table of a drawing, and for runs that are no table.
@@ -56,6 +58,13 @@ listOutput contents bodies label list = listFrom (drawingOfTable contents bodies
 
 abbrev pub paintAnswer : (contents bodies : List ℕ) → ℕ → Which → PaintAnswer
 paintAnswer contents bodies row which = fromTable (paintAsked which row) (Refused noTable) (drawingOfTable contents bodies)
+
+-- What is given of a box, as the public answer has it.
+abbrev pub extentValue : ExtentGiven → ExtentAnswer
+extentValue g = record { number = g .answer .number; extent = g .extent }
+
+abbrev pub extentAnswer : (contents bodies : List ℕ) → ℕ → ExtentAnswer
+extentAnswer contents bodies row = fromTable (λ d. extentValue (extentAsked row d)) (extentValue (noExtent noTable)) (drawingOfTable contents bodies)
 
 -- What is given of a text, as the public answer has it.
 abbrev pub textValue : TextGiven → TextAnswer

@@ -86,7 +86,7 @@ count least = record { shape = K.integer; fault = λ v. unless (leZ (pos least) 
 abbrev pub memberCount : Kind
 memberCount = count 0
 
--- how many segments a path has
+-- how many segments an outline has: one or more
 abbrev pub segmentCount : Kind
 segmentCount = count 1
 

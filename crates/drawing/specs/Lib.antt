@@ -28,6 +28,7 @@ pub mod Table
 pub mod Order
 pub mod Answers
 pub mod Questions
+pub mod Extent
 pub mod Reading
 pub mod TableDrawing
 pub mod KindLaws

@@ -5,7 +5,7 @@ use Prim.Native.Nat.{ℕ}
 abbrev pub lastMinor : ℕ
 lastMinor = 5
 
--- the versions with which fields change
+-- the versions with which fields or objects change
 abbrev pub v1-1 : ℕ
 v1-1 = 1
 

@@ -1,4 +1,5 @@
 -- The plans that settle an argument (01), marked m1 to m14: one table of files, lent rooms and expected results, and one statement over it.
+-- m6 and m9 are as R-1 and R-2 have them.
 use mathlib.Core.Path.{_≡_, refl}
 use Prim.Native.Nat.{ℕ}
 use Prim.Native.Char.{code}

@@ -58,6 +58,10 @@ outputTooShort = 17
 abbrev pub listTooShort : ℕ
 listTooShort = 18
 
+-- R-5's own: a coordinate is not a number
+abbrev pub notANumber : ℕ
+notANumber = 20
+
 -- the numbers of questions about a row: there is no such row, or its object has no such part
 abbrev pub noRow : ℕ
 noRow = 6

@@ -27,6 +27,7 @@ pub data Segment : Type 0 where
   line : (start end : Point) → Segment
   move : (start end : Point) → Segment
 
+-- What a path draws, and what a text runs along.
 pub record Outline : Type 0 where
   -- the char O or C
   pub openOrClosed : ℕ

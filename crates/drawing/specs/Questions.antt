@@ -92,7 +92,7 @@ paintOf (part (P.plain p)) = given 0 0 (plainValue p) PaintCase.Transparent 0
 paintOf (part (P.linear start end d)) = given 0 1 (plainValue start) (plainValue end) d
 paintOf (part (P.radial start end l)) = given 0 2 (plainValue start) (plainValue end) l
 
--- A part that leaves of one kind have.
+-- A part that leaves of some kinds have; a group has none.
 abbrev pub leafPart : {A : Type 0} → (Leaf → Option A) → Object → Option A
 leafPart has (leaf l d) = has l
 leafPart has (group os d) = none

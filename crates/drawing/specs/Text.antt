@@ -19,7 +19,7 @@ pub record Latex : Type 0 where
   pub vertical : ℕ
   pub alternative : String
 
--- A font with its LaTeX fields.
+-- A font with its transformation and its LaTeX fields.
 pub record TextStyle : Type 0 where
   pub family : String
   pub shape : ℕ

@@ -1,4 +1,4 @@
--- Texts along paths (R-1, X), from 1.5 on.
+-- Texts along paths (R-1, X; the order is that of source document 004), from 1.5 on.
 use mathlib.Core.Path.{refl}
 use Prim.Native.Nat.{ℕ}
 use Rattle.format.specs.Layout.{Layout, renamed, _&_}

@@ -13,3 +13,4 @@ pub mod PathCases
 pub mod Refusals
 pub mod Tables
 pub mod AnswerCases
+pub mod ExtentCases

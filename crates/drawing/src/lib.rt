@@ -80,3 +80,19 @@ pub struct TextAnswer {
     pub alternative: Span,
     pub text: Span,
 }
+
+// The box around an outline: the least and the greatest coordinates.
+#[repr(C)]
+pub struct Extent {
+    pub left: f64,
+    pub bottom: f64,
+    pub right: f64,
+    pub top: f64,
+}
+
+// The answer of the question about an extent: the number, and the box.
+#[repr(C)]
+pub struct ExtentAnswer {
+    pub number: u32,
+    pub extent: Extent,
+}

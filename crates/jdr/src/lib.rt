@@ -1,10 +1,12 @@
 // The calls of the library, for other programs: each with its contract, which decides its answer and all lent memory for every input. What each
 // promises stands in crates/promises/specs/Promises.antt, from top to bottom. The numbers of answers are 01's.
-ghost use Rattle.promises.specs.Promises.{Reads, Checks, Writes, Lists, Paints, Texts};
+ghost use Rattle.promises.specs.Promises.{Reads, Checks, Writes, Lists, Paints, Texts, Extents};
 ghost use mathlib.Core.Path.{_≡_};
 ghost use lib.ListN.{length};
 ghost use Rattle.drawing.specs.Questions.{shown};
 pub use drawing::Answer;
+pub use drawing::Extent;
+pub use drawing::ExtentAnswer;
 pub use drawing::PaintAnswer;
 pub use drawing::Span;
 pub use drawing::TextAnswer;
@@ -50,11 +52,19 @@ pub fn paint(contents: &[u32], bodies: &[u32], row: u32, which: Which) -> PaintA
     questions::paint::paint(contents, bodies, row, which)
 }
 
-// Where the chars of a text row's LaTeX alternative and of its text stand in the bodies. A refusal has the numbers of `paint`, and all places 0.
+// Where the chars of the LaTeX alternative and of the text of a row's text, or text along a path, stand in the bodies. A refusal has the numbers of `paint`, and all places 0.
 pub fn text(contents: &[u32], bodies: &[u32], row: u32) -> TextAnswer
     ensures { λ r. ⌜ Texts (now (contents .entry)) (now (bodies .entry)) row r ⌝ }
 {
     questions::text::text(contents, bodies, row)
+}
+
+// The box around the outline of a row's path, or text along a path: the least and the greatest coordinates of its points, control points included. A refusal
+// has the numbers of `paint`, or 20 where a coordinate is not a number, and a box of positive zeros.
+pub fn extent(contents: &[u32], bodies: &[u32], row: u32) -> ExtentAnswer
+    ensures { λ r. ⌜ Extents (now (contents .entry)) (now (bodies .entry)) row r ⌝ }
+{
+    extent::extent::extent(contents, bodies, row)
 }
 
 // Of two runs of chars, the one to show: the alternative if it has a char, otherwise the plain text. It is that very run.

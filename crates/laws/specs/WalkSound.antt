@@ -1,20 +1,18 @@
 -- What is walked over is a good object's part of a table.
 use mathlib.Core.Path.{_≡_, refl, sym, ap, _∙_, subst, subst₂, subst₃}
-use mathlib.Core.Bool.{Bool, true, false, _&&_}
-use Prim.Native.Nat.{ℕ, zero, suc, _+_, _-_, _^_, _≤_}
+use mathlib.Core.Bool.{Bool, true, false}
+use Prim.Native.Nat.{ℕ, zero, suc, _+_, _-_, _^_}
 use mathlib.Core.List.{List, _∷_, _++_}
 use lib.ListN.{length, getD}
-use lib.Dec.{eqb, leb}
+use lib.Dec.{eqb}
 use native.Mathlib.Nat as Nat
-use native.Mathlib.Omega.{arith}
-use borrow.Author.Tests.{eqb-true, leb-true}
+use borrow.Author.Tests.{eqb-true}
 use Rattle.format.specs.AlternativeLaws.{chosen-tells}
 use Rattle.format.specs.Digits.{Below}
 use Rattle.format.specs.Kind.{Allowed}
 use Rattle.format.specs.Format.{Each}
 use Rattle.format.specs.FormatLaws.{each-length}
 use Rattle.drawing.specs.Fields.{memberCount}
-use Rattle.drawing.specs.FieldLaws.{and-both}
 use Rattle.drawing.specs.String.{String}
 use Rattle.drawing.specs.Object.{Leaf, Object, leaf, group, Objects, listOf, ofList}
 use Rattle.drawing.specs.ObjectId.{leafLetter}

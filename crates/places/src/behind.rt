@@ -3,10 +3,12 @@ use crate::Part;
 use drawing::limits::LEAST_MEMBERS;
 use from_table::field::count;
 use from_table::field::flow_flag;
+use from_table::string::string;
 use from_table_objects::leaf::leaf_parts;
 use from_table_objects::text::before_alternative;
 use from_table_objects::text::font;
 use from_table_objects::text::latex_if;
+use from_table_styles::line_style::line_style;
 use from_table_styles::paint::paint;
 use from_table_styles::paint::plain_paint;
 use ways::Pass;
@@ -37,6 +39,8 @@ fn pass(words: &[u32], out: &mut [u8], at: usize, to: usize, version: u32, part:
         Part::Font => font(&*words, out, at, to),
         Part::Latex => latex_if(&*words, out, at, to),
         Part::BeforeAlternative => before_alternative(&*words, out, at, to),
+        Part::Chars => string(&*words, out, at, to, 1),
+        Part::LineStyle => line_style(&*words, out, at, to, version),
     }
 }
 

@@ -18,4 +18,7 @@ pub enum Part {
     Latex,
     // the LaTeX fields before the alternative
     BeforeAlternative,
+    // a text's string
+    Chars,
+    LineStyle,
 }

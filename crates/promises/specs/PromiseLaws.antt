@@ -1,6 +1,7 @@
 -- Each promise follows from its call's equation, by the laws of the drawing layer. `Below` is what a slice of bytes or of words says of its elements.
 use mathlib.Core.Path.{_≡_, refl, sym, ap, ap₂, subst, _∙_}
 use mathlib.Core.Logic.{_⊎_, _↔_, inl, inr}
+use mathlib.Core.Bool.{Bool, true, false, cond}
 use mathlib.Core.Option.{Option, none, some, Option·map}
 use Prim.Native.Nat.{ℕ, _^_}
 use native.Mathlib.Omega.{arith}
@@ -13,6 +14,9 @@ use Rattle.drawing.specs.declared.PaintAnswer.{PaintAnswer}
 use Rattle.drawing.specs.declared.PaintAnswer.the-variants as Paint
 use Rattle.drawing.specs.declared.Which.{Which}
 use Rattle.drawing.specs.declared.TextAnswer.{TextAnswer}
+use Rattle.drawing.specs.declared.Extent.{Extent}
+use Rattle.drawing.specs.declared.ExtentAnswer.{ExtentAnswer}
+use Rattle.drawing.specs.Numbers.{notANumber}
 use Rattle.drawing.specs.Fields.{unless}
 use Rattle.drawing.specs.String.{String}
 use Rattle.drawing.specs.Paint as P
@@ -24,10 +28,12 @@ use Rattle.drawing.specs.Refusal.{Refused}
 use Rattle.drawing.specs.Table.{startIn, IsTable}
 use Rattle.drawing.specs.TableDrawing.{drawingOfTable}
 use Rattle.drawing.specs.Order.{objectsOf, descriptionOf, entries, groupsAround, ParentChain}
-use Rattle.drawing.specs.Answers.{overwrite, roomFault, stored, tableRefused, tableChecked, Output, nothingStored, tableWritten, listed, tableListed}
+use Rattle.drawing.specs.Answers.{answer, overwrite, roomFault, stored, tableRefused, tableChecked, Output, nothingStored, tableWritten, listed, tableListed}
 use Rattle.drawing.specs.Questions as Q
 use Rattle.drawing.specs.Questions.{CharsAt}
-use Rattle.drawing.specs.Computed.{fromTable, readFrom, readResult, checkAnswer, writeOutput, listOutput, paintAnswer, textValue, textIn, textAnswer}
+use Rattle.drawing.specs.Path.{Outline}
+use Rattle.drawing.specs.Extent as E
+use Rattle.drawing.specs.Computed.{fromTable, readFrom, readResult, checkAnswer, writeOutput, listOutput, paintAnswer, textValue, textIn, textAnswer, extentValue, extentAnswer}
 use Rattle.laws.specs.DrawingLaws.{drawing-of-bytes, refusal-of-bytes}
 use Rattle.laws.specs.TableLaws.{drawing-of-table, no-drawing}
 use Rattle.laws.specs.AnswerLaws.{take-overwrite}
@@ -36,7 +42,7 @@ use Rattle.laws.specs.OrderLaws.{leads}
 use Rattle.laws.specs.RowBodies.{RowBody}
 use Rattle.laws.specs.RowBodyLaws.{row-object, object-row, object-body}
 use Rattle.laws.specs.TextPlaceLaws.{text-chars, alternative-of}
-use Rattle.promises.specs.Promises.{readTo, Reads, ByTable, OfTable, by-table, Demanded, demand3, outputTo, Checks, Writes, Listed, Lists, Paints, Texts}
+use Rattle.promises.specs.Promises.{readTo, Reads, ByTable, OfTable, by-table, Demanded, demand3, outputTo, Checks, Writes, Listed, Lists, Paints, Texts, Extents}
 
 -- ---- read
 
@@ -174,5 +180,27 @@ texts {contents} {bodies} {row} {r} below is =
           computed .table d table
           ∙ ap (λ x. textValue (Q.textPlaces (startIn contents row) (d .version) (Q.partAt (Q.textPart (d .version)) x))) object-is in
           subst (Placed contents bodies row (d .version) t) (sym answer-is) (by-object contents bodies row (d .version) t o (object-body contents bodies d table row o object-is) has);
+      says = is;
+    }
+
+-- What the public answer of a box stands for: its offset and counts are 0 anyway.
+given-extent : (v : ℕ) (x : Q.Found Outline) → E.extentGiven (extentValue (E.extentOf v x)) ≡ E.extentOf v x
+given-extent v (Q.refusal n) = refl
+given-extent v (Q.part o) = by (E.anyNaN (E.outlinePoints v o)) (E.boxOf (E.outlinePoints v o))
+  where
+    by : (t : Bool) (box : Extent) → let given = cond t (E.noExtent notANumber) (record { answer = answer 0 0 0 0; extent = box }) in E.extentGiven (extentValue given) ≡ given
+    by true box = refl
+    by false box = refl
+
+pub extents : {contents bodies : List ℕ} {row : ℕ} {r : ExtentAnswer} → Below (2 ^ 32) bodies → r ≡ extentAnswer contents bodies row → Extents contents bodies row r
+extents {contents} {bodies} {row} below is =
+    let computed = told-by-table (λ d. extentValue (E.extentAsked row d)) (extentValue (E.noExtent 16)) below is in
+    record {
+      decides =
+          by-table (record {
+            table = λ d t. ap E.extentGiven (computed .table d t) ∙ given-extent (d .version) (Q.partOf (Q.leafPart E.outlineIn) row d);
+            no-table = λ none-has. ap E.extentGiven (computed .no-table none-has);
+            one-or-other = computed .one-or-other;
+          });
       says = is;
     }

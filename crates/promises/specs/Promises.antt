@@ -2,8 +2,8 @@
 --
 -- Each promise says it of the drawing, and then once more by an equation, `says`, with a definition that computes the answer (Computed.antt in
 -- crates/drawing). The first decide everything; only these have to be believed, with the definitions that they name: IsFile, Refused, IsTable, the answers
--- for a drawing (Answers.antt), the order of objects (Order.antt) and the questions (Questions.antt). A run that is lent by `&` cannot change, so the promises
--- speak of runs that are lent by `&mut`.
+-- for a drawing (Answers.antt), the order of objects (Order.antt) and the questions (Questions.antt, Extent.antt). A run that is lent by `&` cannot change, so
+-- the promises speak of runs that are lent by `&mut`.
 use mathlib.Core.Path.{_≡_}
 use mathlib.Core.Logic.{_⊎_, _↔_}
 use Prim.Native.Nat.{ℕ, _<_, _≤_}
@@ -15,6 +15,7 @@ use Rattle.drawing.specs.declared.PaintAnswer.{PaintAnswer}
 use Rattle.drawing.specs.declared.PaintAnswer.the-variants as Paint
 use Rattle.drawing.specs.declared.Which.{Which}
 use Rattle.drawing.specs.declared.TextAnswer.{TextAnswer}
+use Rattle.drawing.specs.declared.ExtentAnswer.{ExtentAnswer}
 use Rattle.drawing.specs.String.{String}
 use Rattle.drawing.specs.Text.{Text}
 use Rattle.drawing.specs.Object.{Object}
@@ -24,7 +25,8 @@ use Rattle.drawing.specs.Table.{IsTable}
 use Rattle.drawing.specs.Order.{objectsOf, descriptionOf, entries, groupsAround, ParentChain}
 use Rattle.drawing.specs.Answers.{ReadResult, fileRead, unread, tableRefused, tableChecked, Output, nothingStored, tableWritten, tableListed}
 use Rattle.drawing.specs.Questions.{refusal, partOf, paintPart, paintAsked, paintGiven, paintOf, textAsked, noText, textGiven, leafPart, wording, alternativeOf, CharsAt}
-use Rattle.drawing.specs.Computed.{readResult, checkAnswer, writeOutput, listOutput, paintAnswer, textAnswer}
+use Rattle.drawing.specs.Extent.{extentAsked, noExtent, extentGiven}
+use Rattle.drawing.specs.Computed.{readResult, checkAnswer, writeOutput, listOutput, paintAnswer, textAnswer, extentAnswer}
 
 -- ---- read
 
@@ -110,3 +112,9 @@ pub record Texts (contents bodies : List ℕ) (row : ℕ) (r : TextAnswer) : Typ
   pub places : (d : Drawing) (o : Object) (t : Text) → IsTable contents bodies d → getElem? (objectsOf d) row ≡ some o → leafPart wording o ≡ some t
       → CharsAt bodies (r .alternative) (alternativeOf (t .style .latex)) × CharsAt bodies (r .text) (t .text)
   pub says : r ≡ textAnswer contents bodies row
+
+-- ---- extent
+
+pub record Extents (contents bodies : List ℕ) (row : ℕ) (r : ExtentAnswer) : Type 0 where
+  pub decides : OfTable contents bodies (extentAsked row) (noExtent 16) (extentGiven r)
+  pub says : r ≡ extentAnswer contents bodies row

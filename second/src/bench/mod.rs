@@ -79,7 +79,7 @@ pub fn run() -> Result<ExitCode, String> {
     for (name, make) in plans::ALL {
         let mut work = Work::new(&make());
         let bytes = work.bytes();
-        for &call in Call::ALL {
+        for call in Call::linked().filter(|call| call.is_measured(name)) {
             let [library, direct, plain, copied] = rates(bytes, |each| match Who::ALL.get(each) {
                 Some(who) => work.repeat(call, *who),
                 None => copy(&mut work),
@@ -105,7 +105,8 @@ fn counts_in_words([library, direct, plain]: [Option<f64>; 3]) -> String {
 pub fn calls(plans: &str, call: &str, who: &str, times: u64) -> Result<ExitCode, String> {
     let none = |word: &str| format!("not known: {word}");
     let (_, make) = plans::ALL.into_iter().find(|(name, _)| *name == plans).ok_or(none(plans))?;
-    let call = *Call::ALL.iter().find(|each| each.name() == call).ok_or(none(call))?;
+    let mut measured = Call::linked().filter(|each| each.is_measured(plans));
+    let call = measured.find(|each| each.name() == call).ok_or(none(call))?;
     let who = Who::ALL.into_iter().find(|each| each.name() == who).ok_or(none(who))?;
     let mut work = Work::new(&make());
     for _ in 0..times {

@@ -1,8 +1,9 @@
 //! The plans that are measured, the same in every run.
 
+use second::generate::coordinates::{coordinates_mut, plain};
 use second::generate::special::{nested, plain_drawing};
 use second::generate::{self, chars, Maker};
-use second::model::{Drawing, Object};
+use second::model::{Drawing, Object, Segment};
 use second::version::{Version, DEEPEST_GROUP};
 use second::write;
 
@@ -18,7 +19,11 @@ const MEASURED: [Version; 5] = {
 /// Makes the plans of a sort.
 pub type Make = fn() -> Vec<Drawing>;
 
-pub const ALL: [(&str, Make); 4] = [("small", small), ("paths", paths), ("texts", texts), ("nested", deep)];
+/// The plans for the box: row 1 is a path, and its points are nearly all that there is.
+pub const OUTLINE: &str = "outline";
+
+pub const ALL: [(&str, Make); 5] =
+    [("small", small), ("paths", paths), ("texts", texts), ("nested", deep), (OUTLINE, outlines)];
 
 /// Plans of some hundred bytes, of all the versions.
 fn small() -> Vec<Drawing> {
@@ -45,8 +50,25 @@ fn filled(object: fn(&mut Maker) -> Object) -> Vec<Drawing> {
 fn paths() -> Vec<Drawing> {
     filled(|maker| {
         let mut path = maker.path();
-        let letters: Vec<u8> = (0..100).map(|_| *maker.random.pick(b"BLM")).collect();
-        path.outline.segments = letters.into_iter().map(|letter| maker.segment_of(letter)).collect();
+        path.outline.segments = segments(maker, 100);
+        Object::Path(path)
+    })
+}
+
+fn segments(maker: &mut Maker, count: usize) -> Vec<Segment> {
+    let letters: Vec<u8> = (0..count).map(|_| *maker.random.pick(b"BLM")).collect();
+    letters.into_iter().map(|letter| maker.segment_of(letter)).collect()
+}
+
+/// One path that fills the plan. Its coordinates are plain numbers, since a NaN would be refused.
+fn outlines() -> Vec<Drawing> {
+    filled(|maker| {
+        let mut path = maker.path();
+        while write::object_length(maker.version, &Object::Path(path.clone())) < LARGE {
+            path.outline.segments.extend(segments(maker, 20));
+        }
+        let coordinates = coordinates_mut(&mut path.outline);
+        coordinates.into_iter().for_each(|coordinate| *coordinate = plain(&mut maker.random));
         Object::Path(path)
     })
 }

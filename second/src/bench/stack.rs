@@ -86,13 +86,16 @@ fn deepest(version: Version) -> Vec<Plan> {
 type Use = (&'static str, fn(&Plan));
 
 /// Each call, and the ways to make it that matter.
-const CALLS: [Use; 6] = [
+const CALLS: [Use; 7] = [
     ("jdr_read", |plan| {
         let (mut contents, mut bodies) = (vec![0; plan.table.contents.len()], vec![0; plan.table.bodies.len()]);
         black_box(library::read(given(&plan.file), lent(&mut contents), lent(&mut bodies)));
     }),
     ("jdr_check", |plan| {
         black_box(library::check(given(&plan.table.contents), given(&plan.table.bodies)));
+    }),
+    ("jdr_box", |plan| {
+        black_box(library::extent(given(&plan.table.contents), given(&plan.table.bodies), plan.table.rows() - 1));
     }),
     ("jdr_write", |plan| {
         let mut file = vec![0; plan.file.len()];

@@ -1,17 +1,20 @@
 //! The calls that are measured: each over all plans of a sort, in rooms that are exact.
 
+use super::plans::OUTLINE;
 use crate::library;
 use second::answer::Answer;
 use second::generate::chars;
 use second::model::{Chars, Drawing};
 use second::table::{self, Table};
-use second::{check, direct, list, write};
+use second::{check, direct, extent, list, write};
 use std::hint::black_box;
 
 #[derive(Clone, Copy)]
 pub enum Call {
     Read,
     Check,
+    /// Of the path that a plan of `plans::OUTLINE` has.
+    Box,
     Write,
     /// With a label that some rows have.
     List,
@@ -20,20 +23,34 @@ pub enum Call {
 }
 
 impl Call {
+    const ALL: [Call; 6] = [Call::Read, Call::Check, Call::Box, Call::Write, Call::List, Call::ListEmpty];
+
     /// Those that the linked library has.
-    pub const ALL: &[Call] = if cfg!(feature = "list") {
-        &[Call::Read, Call::Check, Call::Write, Call::List, Call::ListEmpty]
-    } else {
-        &[Call::Read, Call::Check, Call::Write]
-    };
+    pub fn linked() -> impl Iterator<Item = Call> {
+        Call::ALL.into_iter().filter(|call| match call {
+            Call::Box => cfg!(feature = "box"),
+            Call::Read | Call::Check | Call::Write => true,
+            Call::List | Call::ListEmpty => cfg!(feature = "list"),
+        })
+    }
 
     pub fn name(self) -> &'static str {
         match self {
             Call::Read => "read",
             Call::Check => "check",
+            Call::Box => "box",
             Call::Write => "write",
             Call::List => "list",
             Call::ListEmpty => "list-empty",
+        }
+    }
+
+    /// Whether it is measured on these plans: those for the box have nothing else to show than what it costs beside a check.
+    pub fn is_measured(self, plans: &str) -> bool {
+        match self {
+            Call::Check => true,
+            Call::Box => plans == OUTLINE,
+            _ => plans != OUTLINE,
         }
     }
 }
@@ -108,6 +125,19 @@ impl Plan {
         }
     }
 
+    /// The number alone is handed on, but the whole box is made.
+    fn extent(&mut self, who: Who) -> Answer {
+        let (contents, bodies) = (&self.table.contents, &self.table.bodies);
+        let answer = match who {
+            Who::Library => {
+                library::extent(given(contents), given(bodies), 1).expect("only measured where it is linked")
+            }
+            Who::Direct => direct::extent(contents, bodies, 1),
+            Who::Plain => extent::call(check::good(contents, bodies).as_ref(), 1),
+        };
+        Answer::refused(black_box(answer).number, 0)
+    }
+
     fn write(&mut self, who: Who) -> Answer {
         let (contents, bodies, file) = (&self.table.contents, &self.table.bodies, &mut self.output);
         match who {
@@ -153,6 +183,7 @@ impl Work {
             let answer = match call {
                 Call::Read => plan.read(who),
                 Call::Check => plan.check(who),
+                Call::Box => plan.extent(who),
                 Call::Write => plan.write(who),
                 Call::List => plan.list(who, false),
                 Call::ListEmpty => plan.list(who, true),

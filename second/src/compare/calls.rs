@@ -8,7 +8,7 @@ use second::check::{self, Good};
 use second::make::table_data;
 use second::random::Random;
 use second::table::{self, Table};
-use second::{ask, list, write};
+use second::{ask, extent, list, write};
 
 /// Compares calls and keeps count.
 pub struct Comparer {
@@ -121,6 +121,18 @@ impl Comparer {
         let data = || table_data(&asked.table, label.iter().copied().map(u32::from));
         self.report.compared(Call::List, &words(ours), &words(theirs), memory, detail, data);
         ours
+    }
+
+    /// By the bits of its sides: -0 and 0 differ.
+    pub fn extent(&mut self, asked: &mut Asked, row: u32) {
+        let Some(theirs) = library::extent(asked.contents.given(), asked.bodies.given(), row) else {
+            return;
+        };
+        let ours = extent::call(asked.good.as_ref(), row);
+        let memory = asked.changed();
+        let detail = || format!("row {row}");
+        let data = || table_data(&asked.table, [row]);
+        self.report.compared(Call::Box, &ours.words(), &theirs.words(), memory, detail, data);
     }
 
     pub fn paint(&mut self, asked: &mut Asked, row: u32, which: u32) {

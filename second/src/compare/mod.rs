@@ -1,5 +1,6 @@
 //! Compares the linked library with this program, call by call, for so many seconds.
 
+mod boxes;
 mod calls;
 mod report;
 mod rounds;

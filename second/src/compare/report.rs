@@ -10,12 +10,14 @@ pub enum Call {
     Check,
     Write,
     List,
+    Box,
     Paint,
     Text,
 }
 
 impl Call {
-    const ALL: [Call; 6] = [Call::Read, Call::Check, Call::Write, Call::List, Call::Paint, Call::Text];
+    const ALL: [Call; 7] =
+        [Call::Read, Call::Check, Call::Write, Call::List, Call::Box, Call::Paint, Call::Text];
 
     fn name(self) -> &'static str {
         match self {
@@ -23,6 +25,7 @@ impl Call {
             Call::Check => "check",
             Call::Write => "write",
             Call::List => "list",
+            Call::Box => "box",
             Call::Paint => "paint",
             Call::Text => "text",
         }

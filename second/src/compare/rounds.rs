@@ -1,9 +1,11 @@
 //! What one round asks: a drawing, its file and table, and many damaged ones.
 
+use super::boxes;
 use super::calls::{Asked, Comparer};
 use second::answer::Answer;
 use second::damage::fields::{of_bodies, of_file, Field};
 use second::damage::{files, tables};
+use second::generate::coordinates::{paths, scattered};
 use second::generate::special::{
     empty_groups, empty_to_depth, of_depth, padded, plain_drawing, sampler, with_chains, with_text_path,
 };
@@ -27,7 +29,7 @@ struct Round {
 pub fn round(comparer: &mut Comparer, seed: u64) {
     comparer.random = Random::new(seed);
     comparer.report.seed = seed;
-    let drawing = some_drawing(&mut comparer.random);
+    let drawing = some_coordinates(&mut comparer.random);
     let round = Round {
         file: write::file(&drawing),
         table: table::of(&drawing),
@@ -59,6 +61,21 @@ fn count(comparer: &mut Comparer, round: &Round) {
     }
     for depth in empty {
         comparer.report.met(format!("empty group at depth {depth:02}"));
+    }
+}
+
+/// Most drawings have coordinates that make boxes hard, and some have paths alone.
+fn some_coordinates(random: &mut Random) -> Drawing {
+    match random.below(10) {
+        0 => some_drawing(random),
+        1..=3 => {
+            let version = *random.pick(&Version::ALL);
+            paths(random.bits(), version, random.within(1, 8))
+        }
+        _ => {
+            let drawing = some_drawing(random);
+            scattered(random, drawing)
+        }
     }
 }
 
@@ -180,6 +197,7 @@ fn ask_about(comparer: &mut Comparer, round: &Round) {
         let row = some_row(&mut comparer.random, rows);
         questions(comparer, &mut asked, row);
     }
+    boxes::ask(comparer, &mut asked);
 }
 
 fn write_in_rooms(comparer: &mut Comparer, asked: &mut Asked, length: usize) {
@@ -273,6 +291,7 @@ fn ask_damaged(comparer: &mut Comparer, round: &Round) {
             }
             _ => {}
         }
+        boxes::ask_damaged(comparer, &mut asked);
     }
     if comparer.random.once_in(300) {
         let groups = *comparer.random.pick(&[1, 15, 16, 17, 18, 200, 9_000, 30_000]);
@@ -288,4 +307,5 @@ fn ask_all(comparer: &mut Comparer, table: Table) {
     comparer.write(&mut asked, 66_000);
     comparer.list(&mut asked, &[], 10);
     questions(comparer, &mut asked, 1);
+    boxes::ask_damaged(comparer, &mut asked);
 }

@@ -11,6 +11,9 @@ pub trait Bytes {
     /// An object's description is so many of these words, and ends before the one at `end`. They are taken only by who wants them.
     #[inline(always)]
     fn described(&mut self, _words: &[u32], _end: usize, _length: usize) {}
+    /// The points of this row's outline begin with the word at `at`; it has so many segments.
+    #[inline(always)]
+    fn outlined(&mut self, _row: usize, _at: usize, _segments: u32) {}
 }
 
 #[derive(Default)]
@@ -165,6 +168,12 @@ impl<B: Bytes> Walk for FromTable<'_, B> {
     #[inline(always)]
     fn described(&mut self, length: usize) {
         self.out.described(self.bodies, self.at, length);
+    }
+
+    #[inline(always)]
+    fn outlined(&mut self, segments: u32) {
+        // The row of the outline is the last that was opened.
+        self.out.outlined(self.row - 1, self.at, segments);
     }
 
     #[inline(always)]

@@ -1,7 +1,9 @@
-//! Reading, checking, writing and listing as a program does it that cares for time: from bytes to words and back, without the drawing
-//! in between and without memory of its own. A first walk judges and counts before anything is stored, so a refusal stores nothing. The
-//! plain modules say what is right; this one is measured beside the library, and `tests/direct.rs` holds it to the plain answers.
+//! Reading, checking, writing, listing and the box question as a program does it that cares for time: from bytes to words and back, without
+//! the drawing in between and without memory of its own. A first walk judges and counts before anything is stored, so a refusal stores
+//! nothing. The plain modules say what is right; this one is measured beside the library, and `tests/direct.rs` and `tests/direct_boxes.rs`
+//! hold it to the plain answers.
 
+mod extent;
 mod from_file;
 mod from_table;
 mod list;
@@ -10,6 +12,7 @@ mod walk;
 use crate::answer::Answer;
 use crate::table::ROW;
 use crate::version::LONGEST_FILE;
+pub use extent::extent;
 use from_file::FromFile;
 use from_table::FromTable;
 pub use list::list;

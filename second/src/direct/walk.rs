@@ -46,6 +46,10 @@ pub trait Walk {
     #[inline(always)]
     fn described(&mut self, _length: usize) {}
 
+    /// The points of an outline begin here; it has so many segments.
+    #[inline(always)]
+    fn outlined(&mut self, _segments: u32) {}
+
     /// The body is done.
     fn close(&mut self, opened: Opened, parent: usize) -> Result<(), Self::Stop>;
 }
@@ -253,6 +257,7 @@ fn path<W: Walk>(walk: &mut W, minor: u32) -> Result<(), W::Stop> {
 fn outline<W: Walk>(walk: &mut W, minor: u32) -> Result<(), W::Stop> {
     walk.field::<2>(|bits| unless(bits == u32::from(b'O') || bits == u32::from(b'C'), 7))?;
     let n = count(walk, 1)?;
+    walk.outlined(n);
     if minor < 3 {
         return joined_segments(walk, n);
     }

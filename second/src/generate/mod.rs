@@ -1,5 +1,6 @@
 //! Good drawings of every version, from a seed.
 
+pub mod coordinates;
 pub mod edges;
 mod parts;
 pub mod special;

@@ -26,7 +26,8 @@ fn path(out: &mut impl Fields, version: Version, path: &Path) {
     outline(out, version, &path.outline);
 }
 
-fn outline(out: &mut impl Fields, version: Version, outline: &Outline) {
+/// Where a path runs, or a text along one: open or closed, the count, the start point and the segments.
+pub fn outline(out: &mut impl Fields, version: Version, outline: &Outline) {
     letter(out, PATH_LETTERS, if outline.closed { b'C' } else { b'O' });
     length(out, 1, outline.segments.len());
     if version.has_path_start() {

@@ -6,7 +6,7 @@ mod leaf;
 use crate::model::{AllSettings, Chars, Drawing, Group, Object, Paper, Settings};
 use crate::version::{Version, LONGEST_CHAIN, OUTER_LETTERS};
 
-pub use leaf::{leaf, paint};
+pub use leaf::{leaf, outline, paint};
 
 /// What a field is, and so how wide it is and which values are at fault in it.
 #[derive(Clone, Copy, Debug, PartialEq, Eq)]

@@ -1,5 +1,6 @@
 //! The cases of the calls, and the lines that a program under test has to print for them.
 
+pub mod boxes;
 mod broken;
 pub mod lists;
 pub mod reads;
@@ -15,8 +16,8 @@ use std::path::Path;
 type Make = fn(u64) -> Vec<Case>;
 
 /// Each call by the name that its cases have, in the order in which they are run.
-pub const CALLS: [(&str, Make); 3] =
-    [("read", reads::cases), ("table", tables::cases), ("list", lists::cases)];
+pub const CALLS: [(&str, Make); 4] =
+    [("read", reads::cases), ("table", tables::cases), ("list", lists::cases), ("box", boxes::cases)];
 
 /// What lent memory holds before a call.
 pub const FILL: u32 = 0xA5A5_A5A5;
@@ -78,11 +79,12 @@ fn remove_later(data: &Path, call: &str, count: usize) -> io::Result<()> {
     Ok(())
 }
 
-/// How often each number stands first in a case's line, for the totals that are printed.
+/// How often each number stands first in a case's line, behind the row of a question, for the totals that are printed.
 pub fn first_numbers(cases: &[Case]) -> BTreeMap<u32, usize> {
     let mut numbers = BTreeMap::new();
     for case in cases {
-        if let Some(number) = case.groups[0].split(' ').next().and_then(|word| word.parse().ok()) {
+        let mut words = case.groups[0].split(' ').filter(|word| !word.ends_with(':'));
+        if let Some(number) = words.next().and_then(|word| word.parse().ok()) {
             *numbers.entry(number).or_default() += 1;
         }
     }

@@ -1,14 +1,14 @@
 -- A file of version 1.5 in full: texts along paths, one with LaTeX fields and one without, beside a path with what 1.4 brought; and what the
--- listing and the two questions answer about it.
+-- listing and the three questions answer about it.
 use mathlib.Core.Path.{_≡_, refl}
-use mathlib.Core.Bool.{true, false}
+use mathlib.Core.Bool.{false}
 use mathlib.Core.Option.{none, some}
 use Prim.Native.Nat.{ℕ}
 use Prim.Native.Char.{code}
 use mathlib.Core.List.{List, [], _∷_, _++_, map}
 use lib.ListN.{set}
-use lib.IntN.{pos, negsuc}
-use lib.Ieee.{fin, le, lt, ofInt, ofBits}
+use lib.IntN.{negsuc}
+use lib.Ieee.{Float, fin, le, lt, ofInt, ofBits, nanBits}
 use Rattle.format.specs.FloatRange.{fromZeroTo, fromZeroBelow}
 use Rattle.drawing.specs.declared.Paint.the-variants as Enum
 use Rattle.drawing.specs.declared.PaintAnswer.the-variants.{Refused, Plain}
@@ -21,7 +21,8 @@ use Rattle.drawing.specs.Settings.{absent}
 use Rattle.drawing.specs.Object.{path, textPath, leaf, group, ofList}
 use Rattle.drawing.specs.Drawing.{Drawing}
 use Rattle.drawing.specs.Order.{entries}
-use Rattle.drawing.specs.Computed.{checkAnswer, paintAnswer, textAnswer}
+use Rattle.drawing.specs.Extent.{noBox}
+use Rattle.drawing.specs.Computed.{checkAnswer, paintAnswer, textAnswer, extentAnswer}
 use Rattle.drawing.specs.examples.Whole.{Whole}
 use Rattle.drawing.specs.examples.Bytes.{Item, byte, flag, int, float, char, string, codes, bytes, words, floats, doubles, head, at}
 
@@ -193,6 +194,22 @@ texts : (textAnswer contents bodies 1 ≡ record { number = 0; alternative = rec
     × (textAnswer contents bodies 4 ≡ record { number = 7; alternative = record { start = 0; length = 0 }; text = record { start = 0; length = 0 } })
 unfolding fromZeroTo fromZeroBelow le lt ofInt ofBits
 texts = (refl, refl, refl)
+
+-- The box of each row: row 1 has a NaN in its last point, rows 0 and 2 are groups, and there is no row 5. In 1.4 the words are no table.
+abbrev tiny : ℕ → ℕ → Float
+tiny m e = fin false m (negsuc e)
+
+extents : map (λ (q : ℕ × ℕ). extentAnswer contents (set bodies 0 (q .0)) (q .1)) ((5, 0) ∷ (5, 1) ∷ (5, 2) ∷ (5, 3) ∷ (5, 4) ∷ (5, 5) ∷ (4, 3) ∷ [])
+    ≡ record { number = 7; extent = noBox }
+    ∷ record { number = 20; extent = noBox }
+    ∷ record { number = 7; extent = noBox }
+    ∷ record { number = 0; extent = record { left = tiny 0x31_0000_0041 1073; bottom = tiny 0x19_0000_0021 1072; right = tiny 0x33_0000_0043 1073; top = tiny 0xD_0000_0011 1071 } }
+    ∷ record { number = 0; extent = record { left = tiny 0x91_0000_00A1 1073; bottom = tiny 0x49_0000_0051 1072; right = tiny 0x93_0000_00A3 1073; top = tiny 0x25_0000_0029 1071 } }
+    ∷ record { number = 6; extent = noBox }
+    ∷ record { number = 16; extent = noBox }
+    ∷ []
+unfolding fromZeroTo fromZeroBelow le lt ofInt ofBits nanBits
+extents = refl
 
 -- In 1.4 the same words are no table, nor with a path's or a text's kind in the row.
 others : (checkAnswer contents bodies .number ≡ 0)

@@ -16,6 +16,8 @@ use Rattle.from_table_styles.proofs.paint.plain_paint.Reads as plain-paint-read
 use Rattle.from_table_objects.proofs.text.before_alternative.Reads as before-alternative-reads
 use Rattle.from_table_objects.proofs.text.font.Reads as font-reads
 use Rattle.from_table_objects.proofs.text.latex_if.Reads as latex-if-reads
+use Rattle.from_table.proofs.string.string.Reads as string-reads
+use Rattle.from_table_styles.proofs.line_style.line_style.Reads as line-style-reads
 
 enum-told : tie.Need-enum-told
 enum-told c = search needs
@@ -64,6 +66,18 @@ enum-told-7 c = search needs
 
 before-alternative-requires : tie.Need-before-alternative-requires
 before-alternative-requires c κs = search needs
+
+enum-told-8 : tie.Need-enum-told-8
+enum-told-8 c = search needs
+
+string-requires : tie.Need-string-requires
+string-requires c κs = search needs
+
+enum-told-9 : tie.Need-enum-told-9
+enum-told-9 c = search needs
+
+line-style-requires : tie.Need-line-style-requires
+line-style-requires c κs = search needs
 
 same-length : tie.Need-same-length
 same-length c = search needs
@@ -145,6 +159,26 @@ returns-8 c =
     let at-args = at-enum-told7 .before .before .before .before in
     this-part (at-args .args .version) (at-enum-told7 .enum-told7 .given .1) (at-before-alternative .before-alternative .ensures)
 
+same-length-9 : tie.Need-same-length-9
+same-length-9 c = search needs
+
+returns-9 : tie.Need-returns-9
+returns-9 c =
+    let at-string = c .before .before in
+    let at-enum-told8 = at-string .before .before in
+    let at-args = at-enum-told8 .before .before .before .before in
+    this-part (at-args .args .version) (at-enum-told8 .enum-told8 .given .1) (at-string .string .ensures)
+
+same-length-10 : tie.Need-same-length-10
+same-length-10 c = search needs
+
+returns-10 : tie.Need-returns-10
+returns-10 c =
+    let at-line-style = c .before .before in
+    let at-enum-told9 = at-line-style .before .before in
+    let at-args = at-enum-told9 .before .before .before .before in
+    this-part (at-args .args .version) (at-enum-told9 .enum-told9 .given .1) (at-line-style .line-style .ensures)
+
 pub pass-spec : {M : Type 1} → statement M
 pass-spec =
     tie.close
@@ -165,6 +199,10 @@ pass-spec =
     latex-if-requires
     enum-told-7
     before-alternative-requires
+    enum-told-8
+    string-requires
+    enum-told-9
+    line-style-requires
     same-length
     returns
     same-length-2
@@ -180,4 +218,8 @@ pass-spec =
     same-length-7
     returns-7
     same-length-8
-    returns-8)
+    returns-8
+    same-length-9
+    returns-9
+    same-length-10
+    returns-10)
