@@ -10,7 +10,7 @@ use ways::REFUSED;
 ghost use mathlib.Core.Path.{_≡_};
 ghost use mathlib.Core.Bool.{true};
 ghost use Prim.Native.Nat.{_+_, _*_, _^_, _<_, _≤_};
-ghost use lib.ListN.{length};
+ghost use lib.ListN.{length, getD};
 ghost use Rattle.format.specs.Digits.{digits};
 ghost use Rattle.format.specs.Pass.{put};
 ghost use Rattle.drawing.specs.Limits.{lengthLimit};
@@ -48,6 +48,14 @@ pub fn get(src: &[Unit], at: usize, size: usize) -> u64
         return src[at] as u64;
     }
     from_halves(src[at], src[at + 1])
+}
+
+// The word at a place.
+pub fn word_in(src: &[Unit], at: usize) -> u32
+    requires { ⌜ at < length (units (now src)) ⌝ }
+    ensures { λ r. ⌜ r ≡ getD (units (now (src .entry))) at 0 ⌝ }
+{
+    src[at]
 }
 
 pub fn put(dst: &mut [Kept], to: usize, size: usize, value: u64)
