@@ -19,7 +19,7 @@ extern "C" {
 
 /* The numbers given back. The offset is the first byte of the field at fault where nothing else is said; for 1 to 13 both counts are 0. */
 enum {
-    JDR_ACCEPTED = 0,            /* done; the offset is the file's length, the counts are those of the table (jdr_list says its own) */
+    JDR_ACCEPTED = 0,            /* done; the offset is the file's or sheet's length, the counts are the table's (jdr_list says its own) */
     JDR_TOO_LONG = 1,            /* a file of more than JDR_LONGEST_FILE bytes; the offset is that limit */
     JDR_CUT = 2,                 /* the file ends before or within the field */
     JDR_NO_JDR = 3,              /* the first field is not 'JDR' */
@@ -33,11 +33,12 @@ enum {
     JDR_FLOW_FRAME = 11,         /* a flow frame flag is 1 */
     JDR_UNJOINED = 12,           /* a segment's start does not join the end before it (below version 1.3) */
     JDR_TRAILING_BYTES = 13,     /* bytes after the outer group; the offset is the first of them */
-    JDR_CONTENTS_TOO_SHORT = 14, /* the offset is the file's length, the counts are those needed */
+    JDR_CONTENTS_TOO_SHORT = 14, /* the offset is the file's or sheet's length, the counts are those needed */
     JDR_BODIES_TOO_SHORT = 15,   /* the same */
     JDR_NO_TABLE = 16,           /* no acceptable file gives this table; offset and counts are 0 */
     JDR_OUTPUT_TOO_SHORT = 17,   /* the offset is the bytes needed; the counts are 0 */
     JDR_LIST_TOO_SHORT = 18,     /* the offset is the entries needed; the counts are 0 */
+    JDR_NO_SHEET = 19,           /* the bytes are no sheet; offset and counts are 0 */
     JDR_NOT_A_NUMBER = 20        /* of jdr_box: a coordinate is a NaN */
 };
 
@@ -120,6 +121,17 @@ struct jdr_answer jdr_check(const uint32_t *contents, size_t contents_len, const
 /* Writes the file of a table, whose used words are lent exactly. 0 with the bytes written as offset and the counts; 16; or 17. */
 struct jdr_answer jdr_write(const uint32_t *contents, size_t contents_len, const uint32_t *bodies, size_t bodies_len, uint8_t *file,
                             size_t file_len);
+
+/* Writes the sheet of a table, whose used words are lent exactly: its row count and word count, the contents, then the bodies; counts and
+ * contents numbers 16-bit, words of the bodies 32-bit, all big-endian. A table has one sheet, of 4 bytes and 8 a row and 4 a word. 0 with
+ * the bytes written as offset and the counts; 16; or 17. */
+struct jdr_answer jdr_sheet_write(const uint32_t *contents, size_t contents_len, const uint32_t *bodies, size_t bodies_len, uint8_t *sheet,
+                                  size_t sheet_len);
+
+/* Reads a sheet, of any length, into a table that an acceptable file gives: the one that jdr_sheet_write wrote. 19 for bytes that are no
+ * such sheet; then 14, 15 and 0, as jdr_read gives them. */
+struct jdr_answer jdr_sheet_read(const uint8_t *sheet, size_t sheet_len, uint32_t *contents, size_t contents_len, uint32_t *bodies,
+                                 size_t bodies_len);
 
 /* Lists the rows of a table, whose used words are lent exactly, that have the label for their description: its chars, compared whole. 0 with
  * how many they are as rows, offset and words 0, and the row numbers in the order in which the objects open; 16; or 18. */

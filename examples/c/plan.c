@@ -1,5 +1,7 @@
-/* Reads a plan. Without a label its table is checked, written back and compared with the file; with one, the objects that have it for their
- * description are listed, each with the groups around it, of a path its box, and of a text what is shown: plan FILE [LABEL]. */
+/* Reads a plan, or its sheet if the file's name ends with .sheet. Without a label the table is checked, written back and compared with the
+ * file; with one, the objects that have it for their description are listed, each with the groups around it, of a path its box, and of a
+ * text what is shown: plan FILE [LABEL]. Or the table is stored as a sheet, to be read from then on without parsing the plan again:
+ * plan store FILE SHEET. */
 #include <stdio.h>
 #include <stdlib.h>
 #include <string.h>
@@ -11,6 +13,13 @@
 struct table {
     uint32_t *contents, *bodies;
     size_t contents_len, bodies_len;
+};
+
+/* A file's bytes, which are a plan or a sheet. */
+struct file {
+    uint8_t *bytes;
+    size_t length;
+    int is_sheet;
 };
 
 static void fail(const char *message)
@@ -33,47 +42,92 @@ static void print(const char *call, struct jdr_answer answer)
     printf("%s: %u %u %u %u\n", call, (unsigned)answer.number, (unsigned)answer.offset, (unsigned)answer.rows, (unsigned)answer.words);
 }
 
-/* The bytes of a file. One more than the longest plan is enough to have it refused. */
-static size_t load(const char *name, uint8_t *bytes, size_t most)
+/* The bytes of a file, whose length is only known at its end. */
+static struct file load(const char *name)
 {
-    size_t length;
-    FILE *file = fopen(name, "rb");
-    if (!file)
+    struct file file = {NULL, 0, 0};
+    size_t most = 0;
+    FILE *source = fopen(name, "rb");
+
+    if (!source)
         fail("the file cannot be read");
-    length = fread(bytes, 1, most, file);
-    if (ferror(file))
-        fail("the file cannot be read");
-    fclose(file);
-    return length;
+    while (!feof(source)) {
+        if (file.length == most) {
+            most = most ? 2 * most : 1024;
+            file.bytes = realloc(file.bytes, most);
+            if (!file.bytes)
+                fail("no memory");
+        }
+        file.length += fread(file.bytes + file.length, 1, most - file.length, source);
+        if (ferror(source))
+            fail("the file cannot be read");
+    }
+    fclose(source);
+    file.is_sheet = strlen(name) >= 6 && strcmp(name + strlen(name) - 6, ".sheet") == 0;
+    return file;
+}
+
+/* The call for a plan or for a sheet: both take the same. */
+static struct jdr_answer read_with_room(const struct file *file, struct table *table)
+{
+    if (file->is_sheet)
+        return jdr_sheet_read(file->bytes, file->length, table->contents, table->contents_len, table->bodies, table->bodies_len);
+    return jdr_read(file->bytes, file->length, table->contents, table->contents_len, table->bodies, table->bodies_len);
 }
 
 /* Reads without room first: the answer is the refusal, or has the counts that are needed. */
-static struct jdr_answer read_plan(const uint8_t *file, size_t length, struct table *table)
+static int read_table(const struct file *file, struct table *table)
 {
-    struct jdr_answer needed = jdr_read(file, length, NULL, 0, NULL, 0);
-    if (needed.number != JDR_CONTENTS_TOO_SHORT)
-        return needed;
-    table->contents_len = (size_t)needed.rows * JDR_ROW_WORDS;
-    table->bodies_len = needed.words;
-    table->contents = room(table->contents_len, sizeof *table->contents);
-    table->bodies = room(table->bodies_len, sizeof *table->bodies);
-    return jdr_read(file, length, table->contents, table->contents_len, table->bodies, table->bodies_len);
+    struct jdr_answer answer = read_with_room(file, table);
+    if (answer.number == JDR_CONTENTS_TOO_SHORT) {
+        table->contents_len = (size_t)answer.rows * JDR_ROW_WORDS;
+        table->bodies_len = answer.words;
+        table->contents = room(table->contents_len, sizeof *table->contents);
+        table->bodies = room(table->bodies_len, sizeof *table->bodies);
+        answer = read_with_room(file, table);
+    }
+    print(file->is_sheet ? "sheet_read" : "read", answer);
+    return answer.number == JDR_ACCEPTED;
 }
 
-/* Whether the table's file is the one that it was read from. */
-static int comes_back(const struct table *table, const uint8_t *file, size_t length)
+/* Whether the table is written as the file that it was read from. */
+static int comes_back(const struct table *table, const struct file *file)
 {
     int same;
-    uint8_t *copy = room(length, 1);
+    uint8_t *copy = room(file->length, 1);
     struct jdr_answer answer;
 
     print("check", jdr_check(table->contents, table->contents_len, table->bodies, table->bodies_len));
-    answer = jdr_write(table->contents, table->contents_len, table->bodies, table->bodies_len, copy, length);
-    print("write", answer);
-    same = answer.number == JDR_ACCEPTED && answer.offset == length && memcmp(copy, file, length) == 0;
+    if (file->is_sheet)
+        answer = jdr_sheet_write(table->contents, table->contents_len, table->bodies, table->bodies_len, copy, file->length);
+    else
+        answer = jdr_write(table->contents, table->contents_len, table->bodies, table->bodies_len, copy, file->length);
+    print(file->is_sheet ? "sheet_write" : "write", answer);
+    same = answer.number == JDR_ACCEPTED && answer.offset == file->length && memcmp(copy, file->bytes, file->length) == 0;
     puts(same ? "the same file" : "ANOTHER FILE");
     free(copy);
     return same;
+}
+
+/* Writes without room first: the answer then has as offset the bytes that are needed. */
+static int store(const struct table *table, const char *name)
+{
+    size_t length;
+    uint8_t *sheet;
+    FILE *target;
+    struct jdr_answer answer = jdr_sheet_write(table->contents, table->contents_len, table->bodies, table->bodies_len, NULL, 0);
+
+    length = answer.offset;
+    sheet = room(length, 1);
+    answer = jdr_sheet_write(table->contents, table->contents_len, table->bodies, table->bodies_len, sheet, length);
+    print("sheet_write", answer);
+    if (answer.number == JDR_ACCEPTED) {
+        target = fopen(name, "wb");
+        if (!target || fwrite(sheet, 1, length, target) != length || fclose(target) != 0)
+            fail("the sheet cannot be written");
+    }
+    free(sheet);
+    return answer.number == JDR_ACCEPTED;
 }
 
 static const char *kind_name(uint32_t kind)
@@ -152,26 +206,29 @@ static int list_label(const struct table *table, const uint16_t *label, size_t l
 
 int main(int count, char **arguments)
 {
-    static uint8_t file[JDR_LONGEST_FILE + 1];
+    int storing = count == 4 && strcmp(arguments[1], "store") == 0;
     struct table table = {NULL, NULL, 0, 0};
-    struct jdr_answer answer;
+    struct file file;
     uint16_t *label = NULL;
-    size_t length, label_len = 0;
+    size_t label_len = 0;
     int done = 0;
 
-    if (count != 2 && count != 3)
-        fail("usage: plan FILE [LABEL]");
+    if (count != 2 && count != 3 && !storing)
+        fail("usage: plan FILE [LABEL], or plan store FILE SHEET");
     if (count == 3) {
         label = room(strlen(arguments[2]), sizeof *label);
         if (!label_of(arguments[2], label, &label_len))
             fail("the label is not UTF-8");
     }
-    length = load(arguments[1], file, sizeof file);
-    answer = read_plan(file, length, &table);
-    print("read", answer);
-    if (answer.number == JDR_ACCEPTED)
-        done = label ? list_label(&table, label, label_len) : comes_back(&table, file, length);
+    file = load(arguments[storing ? 2 : 1]);
+    if (read_table(&file, &table)) {
+        if (storing)
+            done = store(&table, arguments[3]);
+        else
+            done = label ? list_label(&table, label, label_len) : comes_back(&table, &file);
+    }
     free(label);
+    free(file.bytes);
     free(table.contents);
     free(table.bodies);
     return done ? 0 : 1;

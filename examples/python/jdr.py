@@ -78,3 +78,5 @@ write = _call("jdr_write", 3)  # contents, bodies, file
 list = _call("jdr_list", 4)  # contents, bodies, label, entries
 box = _call("jdr_box", 2, Box, 1)  # contents, bodies, row
 text = _call("jdr_text", 2, Text, 1)  # contents, bodies, row
+sheet_write = _call("jdr_sheet_write", 3)  # contents, bodies, sheet
+sheet_read = _call("jdr_sheet_read", 3)  # sheet, contents, bodies

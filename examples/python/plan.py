@@ -1,5 +1,7 @@
-"""Reads a plan. Without a label its table is checked, written back and compared with the file; with one, the objects that have it for
-their description are listed, each with the groups around it, of a path its box, and of a text what is shown: plan.py FILE [LABEL].
+"""Reads a plan, or its sheet if the file's name ends with .sheet. Without a label the table is checked, written back and compared with the
+file; with one, the objects that have it for their description are listed, each with the groups around it, of a path its box, and of a
+text what is shown: plan.py FILE [LABEL]. Or the table is stored as a sheet, to be read from then on without parsing the plan again:
+plan.py store FILE SHEET.
 """
 
 import os
@@ -12,26 +14,47 @@ def show(call, answer):
     print(f"{call}: {answer.number} {answer.offset} {answer.rows} {answer.words}")
 
 
-def read_plan(file):
+def is_sheet(name):
+    return name.endswith(".sheet")
+
+
+def read_table(name, file):
     """The table, or None. Reads without room first: the answer is the refusal, or has the counts that are needed."""
-    answer = jdr.read(file, jdr.words(0), jdr.words(0))
+    call, read = ("sheet_read", jdr.sheet_read) if is_sheet(name) else ("read", jdr.read)
+    answer = read(file, jdr.words(0), jdr.words(0))
     table = None
     if answer.number == jdr.CONTENTS_TOO_SHORT:
         table = jdr.words(answer.rows * jdr.ROW_WORDS), jdr.words(answer.words)
-        answer = jdr.read(file, *table)
-    show("read", answer)
+        answer = read(file, *table)
+    show(call, answer)
     return table if answer.number == jdr.ACCEPTED else None
 
 
-def comes_back(table, file):
-    """Whether the table's file is the one that it was read from."""
+def comes_back(table, name, file):
+    """Whether the table is written as the file that it was read from."""
+    call, write = ("sheet_write", jdr.sheet_write) if is_sheet(name) else ("write", jdr.write)
     show("check", jdr.check(*table))
     copy = jdr.octets(len(file))
-    answer = jdr.write(*table, copy)
-    show("write", answer)
+    answer = write(*table, copy)
+    show(call, answer)
     same = answer.number == jdr.ACCEPTED and answer.offset == len(file) and bytes(copy) == file
     print("the same file" if same else "ANOTHER FILE")
     return same
+
+
+def store(table, name):
+    """Writes without room first: the answer then has as offset the bytes that are needed."""
+    sheet = jdr.octets(jdr.sheet_write(*table, jdr.octets(0)).offset)
+    answer = jdr.sheet_write(*table, sheet)
+    show("sheet_write", answer)
+    if answer.number != jdr.ACCEPTED:
+        return False
+    try:
+        with open(name, "wb") as target:
+            target.write(sheet)
+    except OSError:
+        fail("the sheet cannot be written")
+    return True
 
 
 def groups_around(contents, row):
@@ -82,7 +105,7 @@ def list_label(table, label):
     return answer.number == jdr.ACCEPTED
 
 
-def run(name, label=None):
+def run(name, label=None, sheet=None):
     """Whether all went well; SystemExit where the command line is at fault."""
     if label is not None:
         try:
@@ -95,10 +118,12 @@ def run(name, label=None):
             file = source.read()
     except OSError:
         fail("the file cannot be read")
-    table = read_plan(file)
+    table = read_table(name, file)
     if table is None:
         return False
-    return comes_back(table, file) if label is None else list_label(table, label)
+    if sheet is not None:
+        return store(table, sheet)
+    return comes_back(table, name, file) if label is None else list_label(table, label)
 
 
 def fail(message):
@@ -107,6 +132,11 @@ def fail(message):
 
 
 if __name__ == "__main__":
-    if len(sys.argv) not in (2, 3):
-        fail("usage: plan FILE [LABEL]")
-    sys.exit(0 if run(*sys.argv[1:]) else 1)
+    arguments = sys.argv[1:]
+    if len(arguments) == 3 and arguments[0] == "store":
+        done = run(arguments[1], sheet=arguments[2])
+    elif len(arguments) in (1, 2):
+        done = run(*arguments)
+    else:
+        fail("usage: plan FILE [LABEL], or plan store FILE SHEET")
+    sys.exit(0 if done else 1)

@@ -99,6 +99,22 @@ mod c {
             bodies_len: usize,
             row: u32,
         ) -> Text;
+        pub fn jdr_sheet_write(
+            contents: *const u32,
+            contents_len: usize,
+            bodies: *const u32,
+            bodies_len: usize,
+            sheet: *mut u8,
+            sheet_len: usize,
+        ) -> Answer;
+        pub fn jdr_sheet_read(
+            sheet: *const u8,
+            sheet_len: usize,
+            contents: *mut u32,
+            contents_len: usize,
+            bodies: *mut u32,
+            bodies_len: usize,
+        ) -> Answer;
     }
 }
 
@@ -156,4 +172,30 @@ pub fn extent(contents: &[u32], bodies: &[u32], row: u32) -> Extent {
 
 pub fn text(contents: &[u32], bodies: &[u32], row: u32) -> Text {
     unsafe { c::jdr_text(contents.as_ptr(), contents.len(), bodies.as_ptr(), bodies.len(), row) }
+}
+
+pub fn sheet_write(contents: &[u32], bodies: &[u32], sheet: &mut [u8]) -> Answer {
+    unsafe {
+        c::jdr_sheet_write(
+            contents.as_ptr(),
+            contents.len(),
+            bodies.as_ptr(),
+            bodies.len(),
+            sheet.as_mut_ptr(),
+            sheet.len(),
+        )
+    }
+}
+
+pub fn sheet_read(sheet: &[u8], contents: &mut [u32], bodies: &mut [u32]) -> Answer {
+    unsafe {
+        c::jdr_sheet_read(
+            sheet.as_ptr(),
+            sheet.len(),
+            contents.as_mut_ptr(),
+            contents.len(),
+            bodies.as_mut_ptr(),
+            bodies.len(),
+        )
+    }
 }

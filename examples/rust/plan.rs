@@ -1,9 +1,12 @@
-//! Reads a plan. Without a label its table is checked, written back and compared with the file; with one, the objects that have it for
-//! their description are listed, each with the groups around it, of a path its box, and of a text what is shown: plan FILE [LABEL].
+//! Reads a plan, or its sheet if the file's name ends with .sheet. Without a label the table is checked, written back and compared with the
+//! file; with one, the objects that have it for their description are listed, each with the groups around it, of a path its box, and of a
+//! text what is shown: plan FILE [LABEL]. Or the table is stored as a sheet, to be read from then on without parsing the plan again:
+//! plan store FILE SHEET.
 
 mod jdr;
 
 use jdr::Answer;
+use std::ffi::OsStr;
 use std::process::ExitCode;
 
 /// A table: the used words exactly.
@@ -16,28 +19,58 @@ fn print(call: &str, answer: Answer) {
     println!("{call}: {} {} {} {}", answer.number, answer.offset, answer.rows, answer.words);
 }
 
+/// What a file holds, with the library's calls for it and their names.
+struct Form {
+    read: fn(&[u8], &mut [u32], &mut [u32]) -> Answer,
+    read_name: &'static str,
+    write: fn(&[u32], &[u32], &mut [u8]) -> Answer,
+    write_name: &'static str,
+}
+
+const PLAN: Form = Form { read: jdr::read, read_name: "read", write: jdr::write, write_name: "write" };
+
+const SHEET: Form = Form {
+    read: jdr::sheet_read,
+    read_name: "sheet_read",
+    write: jdr::sheet_write,
+    write_name: "sheet_write",
+};
+
 /// Reads without room first: the answer is the refusal, or has the counts that are needed.
-fn read_plan(file: &[u8]) -> Option<Table> {
-    let mut answer = jdr::read(file, &mut [], &mut []);
+fn read_table(form: &Form, file: &[u8]) -> Option<Table> {
+    let mut answer = (form.read)(file, &mut [], &mut []);
     let mut table = Table { contents: Vec::new(), bodies: Vec::new() };
     if answer.number == jdr::CONTENTS_TOO_SHORT {
         table.contents = vec![0; answer.rows as usize * jdr::ROW_WORDS];
         table.bodies = vec![0; answer.words as usize];
-        answer = jdr::read(file, &mut table.contents, &mut table.bodies);
+        answer = (form.read)(file, &mut table.contents, &mut table.bodies);
     }
-    print("read", answer);
+    print(form.read_name, answer);
     (answer.number == jdr::ACCEPTED).then_some(table)
 }
 
-/// Whether the table's file is the one that it was read from.
-fn comes_back(table: &Table, file: &[u8]) -> bool {
+/// Whether the table is written as the file that it was read from.
+fn comes_back(table: &Table, form: &Form, file: &[u8]) -> bool {
     print("check", jdr::check(&table.contents, &table.bodies));
     let mut copy = vec![0; file.len()];
-    let answer = jdr::write(&table.contents, &table.bodies, &mut copy);
-    print("write", answer);
+    let answer = (form.write)(&table.contents, &table.bodies, &mut copy);
+    print(form.write_name, answer);
     let same = answer.number == jdr::ACCEPTED && answer.offset as usize == file.len() && copy == file;
     println!("{}", if same { "the same file" } else { "ANOTHER FILE" });
     same
+}
+
+/// Writes without room first: the answer then has as offset the bytes that are needed.
+fn store(table: &Table, name: &OsStr) -> Result<bool, &'static str> {
+    let needed = jdr::sheet_write(&table.contents, &table.bodies, &mut []).offset;
+    let mut sheet = vec![0; needed as usize];
+    let answer = jdr::sheet_write(&table.contents, &table.bodies, &mut sheet);
+    print("sheet_write", answer);
+    if answer.number != jdr::ACCEPTED {
+        return Ok(false);
+    }
+    std::fs::write(name, sheet).map_err(|_| "the sheet cannot be written")?;
+    Ok(true)
 }
 
 fn kind_name(kind: u32) -> &'static str {
@@ -112,22 +145,35 @@ fn list_label(table: &Table, label: &[u16]) -> bool {
     answer.number == jdr::ACCEPTED
 }
 
+/// What is done with the table.
+enum Task<'a> {
+    ComeBack,
+    List(Vec<u16>),
+    Store(&'a OsStr),
+}
+
 /// Whether all went well; a message where the command line is at fault.
 fn run() -> Result<bool, &'static str> {
     let arguments: Vec<_> = std::env::args_os().skip(1).collect();
-    let (name, label) = match &arguments[..] {
-        [name] => (name, None),
-        [name, label] => (name, Some(label.to_str().ok_or("the label is not UTF-8")?)),
-        _ => return Err("usage: plan FILE [LABEL]"),
+    let (name, task) = match &arguments[..] {
+        [name] => (name, Task::ComeBack),
+        [name, label] => {
+            let label = label.to_str().ok_or("the label is not UTF-8")?;
+            (name, Task::List(label.encode_utf16().collect()))
+        }
+        [store, name, sheet] if store == "store" => (name, Task::Store(sheet)),
+        _ => return Err("usage: plan FILE [LABEL], or plan store FILE SHEET"),
     };
     let file = std::fs::read(name).map_err(|_| "the file cannot be read")?;
-    let Some(table) = read_plan(&file) else {
+    let form = if name.as_encoded_bytes().ends_with(b".sheet") { SHEET } else { PLAN };
+    let Some(table) = read_table(&form, &file) else {
         return Ok(false);
     };
-    Ok(match label {
-        None => comes_back(&table, &file),
-        Some(label) => list_label(&table, &label.encode_utf16().collect::<Vec<u16>>()),
-    })
+    match task {
+        Task::ComeBack => Ok(comes_back(&table, &form, &file)),
+        Task::List(label) => Ok(list_label(&table, &label)),
+        Task::Store(sheet) => store(&table, sheet),
+    }
 }
 
 fn main() -> ExitCode {

@@ -1,9 +1,9 @@
-//! The plans of the example programs (`../examples`), and the lines that these programs have to print. The lines come from the drawing
-//! as a tree: what is inside what is never taken from a table's parent numbers, which the programs follow.
+//! The plans and sheets of the example programs (`../examples`), and the lines that these programs have to print. The lines come from
+//! the drawing as a tree: what is inside what is never taken from a table's parent numbers, which the programs follow.
 
 use crate::answer::{Answer, BoxAnswer};
 use crate::ask;
-use crate::check;
+use crate::check::{self, Good};
 use crate::extent;
 use crate::generate::chars;
 use crate::generate::special::plain_bitmap;
@@ -13,23 +13,32 @@ use crate::model::{
     Settings, Text, TextPath, TextStyle,
 };
 use crate::version::Version;
-use crate::{plans, read, table, write};
+use crate::{plans, read, sheet, table, write};
 
 const ONE: u32 = 1.0f32.to_bits();
 const HALF: u32 = 0.5f32.to_bits();
 
-/// The plans by their file names.
-pub fn plans() -> Vec<(&'static str, Vec<u8>)> {
+/// How the name of a file ends that holds a sheet, and not a plan.
+const SHEET: &str = ".sheet";
+
+/// The files by their names: plans, their sheets, and one of each that is cut.
+pub fn plans() -> Vec<(String, Vec<u8>)> {
     let hall = write::file(&hall());
-    let cut = hall[..hall.len() - 20].to_vec();
-    vec![
-        ("aisles.jdr", write::file(&aisles())),
-        ("bays.jdr", write::file(&bays())),
-        ("cut.jdr", cut),
-        ("hall.jdr", hall),
-        ("places.jdr", write::file(&places())),
-        ("plan-a.jdr", plans::plan_a()),
-    ]
+    let sheet = |plan: &[u8]| stored("plan.jdr", plan).1.unwrap_or_default();
+    let cut = |bytes: &[u8]| bytes[..bytes.len() - 20].to_vec();
+    let mut files = vec![("cut.jdr".to_string(), cut(&hall)), (format!("cut{SHEET}"), cut(&sheet(&hall)))];
+    let plans = [
+        ("aisles", write::file(&aisles())),
+        ("bays", write::file(&bays())),
+        ("hall", hall),
+        ("places", write::file(&places())),
+        ("plan-a", plans::plan_a()),
+    ];
+    for (name, plan) in plans {
+        files.push((format!("{name}{SHEET}"), sheet(&plan)));
+        files.push((format!("{name}.jdr"), plan));
+    }
+    files
 }
 
 /// One label three times, at two depths.
@@ -172,28 +181,65 @@ fn outlined(outline: Outline, line: Plain, fill: Plain, description: &str) -> Ob
     })
 }
 
-/// What a program prints for a plan, with a label or without; and whether it ends well.
-pub fn lines(file: &[u8], label: Option<&str>) -> (String, bool) {
-    let drawing = match read::drawing(file) {
-        Ok(drawing) => drawing,
-        Err(refusal) => return (line("read", Answer::refused(refusal.number, refusal.offset)), false),
+/// A file that was read: the line for it, and its table if it was accepted.
+fn taken(name: &str, file: &[u8]) -> (String, Option<Good>) {
+    let (call, taken) = if name.ends_with(SHEET) {
+        ("sheet_read", sheet::good(file).ok_or(Answer::refused(19, 0)))
+    } else {
+        ("read", of_plan(file))
     };
-    let table = table::of(&drawing);
-    let read = line("read", Answer::new(0, file.len() as u32, table.rows(), table.words()));
-    let good = check::good(&table.contents, &table.bodies);
+    let length = file.len() as u32;
+    let accepted = |good: &Good| Answer::new(0, length, good.table.rows(), good.table.words());
+    let answer = taken.as_ref().map_or_else(|refusal| *refusal, accepted);
+    (line(call, answer), taken.ok())
+}
+
+fn of_plan(file: &[u8]) -> Result<Good, Answer> {
+    let refused = |refusal: read::Refusal| Answer::refused(refusal.number, refusal.offset);
+    let table = table::of(&read::drawing(file).map_err(refused)?);
+    check::good(&table.contents, &table.bodies).ok_or(Answer::refused(16, 0))
+}
+
+/// What a program prints for a plan or a sheet of this name, with a label or without; and whether it ends well.
+pub fn lines(name: &str, file: &[u8], label: Option<&str>) -> (String, bool) {
+    let (read, good) = taken(name, file);
+    let Some(good) = good else {
+        return (read, false);
+    };
     let Some(label) = label else {
-        let mut copy = vec![0; file.len()];
-        let written = write::call(good.as_ref(), &mut copy);
-        let [check, write] = [("check", check::call(good.as_ref())), ("write", written)];
-        let same = copy == file;
-        let last = if same { "the same file\n" } else { "ANOTHER FILE\n" };
-        return (read + &line(check.0, check.1) + &line(write.0, write.1) + last, same);
+        let (back, same) = comes_back(name, file, &good);
+        return (read + &back, same);
     };
     let label = chars(label);
-    let mut entries = vec![0; table.rows() as usize];
-    let listed = list::call(good.as_ref(), &label, &mut entries);
-    let rows = list::entries(&drawing, &label).into_iter().map(|row| row_line(&drawing, row));
+    let mut entries = vec![0; good.table.rows() as usize];
+    let listed = list::call(Some(&good), &label, &mut entries);
+    let rows = list::entries(&good.drawing, &label).into_iter().map(|row| row_line(&good.drawing, row));
     (read + &line("list", listed) + &rows.collect::<String>(), listed.number == 0)
+}
+
+/// The check, and the table written back as what it came from.
+fn comes_back(name: &str, file: &[u8], good: &Good) -> (String, bool) {
+    let mut copy = vec![0; file.len()];
+    let (call, written) = if name.ends_with(SHEET) {
+        ("sheet_write", sheet::write_call(Some(good), &mut copy))
+    } else {
+        ("write", write::call(Some(good), &mut copy))
+    };
+    let same = copy == file;
+    let last = if same { "the same file\n" } else { "ANOTHER FILE\n" };
+    (line("check", check::call(Some(good))) + &line(call, written) + last, same)
+}
+
+/// What a program prints that stores the sheet of a plan of this name, and the sheet if there is one.
+pub fn stored(name: &str, file: &[u8]) -> (String, Option<Vec<u8>>) {
+    let (read, good) = taken(name, file);
+    let Some(good) = good else {
+        return (read, None);
+    };
+    let needed = sheet::write_call(Some(&good), &mut []).offset;
+    let mut sheet = vec![0; needed as usize];
+    let written = sheet::write_call(Some(&good), &mut sheet);
+    (read + &line("sheet_write", written), Some(sheet))
 }
 
 fn line(call: &str, answer: Answer) -> String {

@@ -64,6 +64,26 @@ extern "C" {
         bodies_len: usize,
         row: u32,
     ) -> TextAnswer;
+
+    #[cfg(feature = "sheet_write")]
+    fn jdr_sheet_write(
+        contents: *const u32,
+        contents_len: usize,
+        bodies: *const u32,
+        bodies_len: usize,
+        sheet: *mut u8,
+        sheet_len: usize,
+    ) -> Answer;
+
+    #[cfg(feature = "sheet_read")]
+    fn jdr_sheet_read(
+        sheet: *const u8,
+        sheet_len: usize,
+        contents: *mut u32,
+        contents_len: usize,
+        bodies: *mut u32,
+        bodies_len: usize,
+    ) -> Answer;
 }
 
 /// A run that is lent for reading: a pointer and a length in elements.
@@ -130,5 +150,25 @@ pub fn text(contents: Given<u32>, bodies: Given<u32>, row: u32) -> Option<TextAn
 
 #[cfg(not(feature = "text"))]
 pub fn text(_: Given<u32>, _: Given<u32>, _row: u32) -> Option<TextAnswer> {
+    None
+}
+
+#[cfg(feature = "sheet_write")]
+pub fn sheet_write(contents: Given<u32>, bodies: Given<u32>, sheet: Lent<u8>) -> Option<Answer> {
+    Some(unsafe { jdr_sheet_write(contents.0, contents.1, bodies.0, bodies.1, sheet.0, sheet.1) })
+}
+
+#[cfg(not(feature = "sheet_write"))]
+pub fn sheet_write(_: Given<u32>, _: Given<u32>, _: Lent<u8>) -> Option<Answer> {
+    None
+}
+
+#[cfg(feature = "sheet_read")]
+pub fn sheet_read(sheet: Given<u8>, contents: Lent<u32>, bodies: Lent<u32>) -> Option<Answer> {
+    Some(unsafe { jdr_sheet_read(sheet.0, sheet.1, contents.0, contents.1, bodies.0, bodies.1) })
+}
+
+#[cfg(not(feature = "sheet_read"))]
+pub fn sheet_read(_: Given<u8>, _: Lent<u32>, _: Lent<u32>) -> Option<Answer> {
     None
 }

@@ -14,8 +14,9 @@ use std::process::ExitCode;
 
 const USAGE: &str = "\
 second read FILE                         the answer, and the lister's lines of an accepted file
-second plan FILE [LABEL]                 what the programs in examples/ print
-second make-examples DIR                 their plans
+second plan FILE [LABEL]                 what the programs in examples/ print for a plan or a sheet
+second plan store FILE SHEET             the same where they store a plan's sheet
+second make-examples DIR                 their plans and sheets
 second make-cases DIR [SEED]             cases of all calls
 second compare [--seconds N] [--seed S] [--out DIR] [--trace FILE]
                                          compares the linked library (built with --features linked)
@@ -30,6 +31,7 @@ fn main() -> ExitCode {
         ["read", file] => read_file(file),
         ["plan", file] => plan(file, None),
         ["plan", file, label] => plan(file, Some(label)),
+        ["plan", "store", file, sheet] => store(file, sheet),
         ["make-examples", folder] => make_examples(Path::new(folder)),
         ["make-cases", folder] => make_cases(folder, 1),
         ["make-cases", folder, seed] => number(seed).and_then(|seed| make_cases(folder, seed)),
@@ -65,9 +67,22 @@ fn read_file(name: &str) -> Result<ExitCode, String> {
 /// The exit status is that of the example programs too.
 fn plan(name: &str, label: Option<&str>) -> Result<ExitCode, String> {
     let file = fs::read(name).map_err(|_| "the file cannot be read")?;
-    let (lines, well) = examples::lines(&file, label);
+    let (lines, well) = examples::lines(name, &file, label);
     print!("{lines}");
     Ok(ExitCode::from(u8::from(!well)))
+}
+
+fn store(plan: &str, name: &str) -> Result<ExitCode, String> {
+    let file = fs::read(plan).map_err(|_| "the file cannot be read")?;
+    let (lines, sheet) = examples::stored(plan, &file);
+    print!("{lines}");
+    match sheet {
+        None => Ok(ExitCode::FAILURE),
+        Some(sheet) => {
+            fs::write(name, sheet).map_err(|_| "the sheet cannot be written")?;
+            Ok(ExitCode::SUCCESS)
+        }
+    }
 }
 
 fn make_examples(folder: &Path) -> Result<ExitCode, String> {

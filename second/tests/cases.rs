@@ -1,6 +1,8 @@
 //! The cases of each call: what they hold, and that a seed always gives the same.
 
-use second::make::{first_numbers, lists, reads, tables, Case, CALLS};
+use second::make::{first_numbers, lists, reads, sheets, tables, Case, CALLS};
+use second::sheet;
+use std::collections::BTreeSet;
 
 fn bytes(cases: &[Case]) -> usize {
     cases.iter().map(|case| case.data.len()).sum()
@@ -61,6 +63,48 @@ fn tables_and_lists_hold_good_and_bad_ones() {
         assert!(numbers.values().all(|count| *count >= 20), "{numbers:?}");
         assert!(cases.len() <= 300 && bytes(&cases) < 1_500_000);
     }
+}
+
+/// The first number of each group.
+fn numbers(case: &Case) -> Vec<&str> {
+    case.groups.iter().filter_map(|group| group.split(' ').next()).collect()
+}
+
+#[test]
+fn sheets_hold_good_and_bad_ones_in_all_rooms() {
+    let accepted_and_refused = [
+        (sheets::write_cases(1), ["0", "0", "17"].as_slice(), ["16"]),
+        (sheets::read_cases(1), ["0", "0", "14", "15"].as_slice(), ["19"]),
+    ];
+    for (cases, accepted, refused) in accepted_and_refused {
+        let good = cases.iter().filter(|case| numbers(case) == accepted).count();
+        let bad = cases.iter().filter(|case| numbers(case) == refused).count();
+        assert!(good >= 20 && bad >= 60, "{good} {bad}");
+        assert_eq!(good + bad, cases.len());
+        assert!(cases.len() <= 350 && bytes(&cases) < 1_000_000);
+    }
+}
+
+/// The room that a data file is read into has 416,000 bytes.
+#[test]
+fn long_sheets_are_among_the_cases() {
+    let cases = sheets::read_cases(1);
+    for first in ["0", "19"] {
+        assert!(cases.iter().any(|case| case.data.len() > 65_535 && number(case) == first));
+    }
+    let all = cases.iter().chain(sheets::write_cases(1).iter()).all(|case| case.data.len() <= 416_000);
+    assert!(all);
+}
+
+#[test]
+fn the_sheets_that_are_read_are_of_all_versions_and_kinds() {
+    let cases = sheets::read_cases(1);
+    let good: Vec<_> = cases.iter().filter_map(|case| sheet::good(&case.data)).collect();
+    let versions: BTreeSet<u8> = good.iter().map(|good| good.drawing.version.minor()).collect();
+    assert!(versions.into_iter().eq(0..=5));
+    let kinds: BTreeSet<u32> =
+        good.iter().flat_map(|good| good.table.contents.iter().step_by(4).copied()).collect();
+    assert!(kinds.into_iter().eq(1..=5));
 }
 
 #[test]

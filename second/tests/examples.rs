@@ -1,10 +1,13 @@
-//! The plans of the example programs, and lines for them that are put down by hand.
+//! The plans and sheets of the example programs, and lines for them that are put down by hand.
 
-use second::examples::{lines, plans};
+use second::examples::{lines, plans, stored};
+
+fn file(wanted: &str) -> Vec<u8> {
+    plans().into_iter().find(|(name, _)| name == wanted).map(|(_, file)| file).expect(wanted)
+}
 
 fn said(plan: &str, label: Option<&str>) -> (String, bool) {
-    let file = plans().into_iter().find(|(name, _)| *name == plan).map(|(_, file)| file);
-    lines(&file.expect(plan), label)
+    lines(plan, &file(plan), label)
 }
 
 /// The rows that are listed, and nothing of the answers above them.
@@ -77,4 +80,38 @@ fn without_a_label_the_file_comes_back() {
     let whole = "read: 0 82 2 20\ncheck: 0 82 2 20\nwrite: 0 82 2 20\nthe same file\n";
     assert_eq!(said("plan-a.jdr", None), (whole.to_string(), true));
     assert_eq!(said("cut.jdr", None), ("read: 2 501 0 0\n".to_string(), false));
+}
+
+#[test]
+fn a_sheet_lists_what_its_plan_lists() {
+    for plan in ["aisles", "bays", "hall", "places", "plan-a"] {
+        for label in ["machine", "bay", "line 2", "press", "Fräse 🔧", "door", ""] {
+            let [of_plan, of_sheet] = ["jdr", "sheet"].map(|form| rows(&format!("{plan}.{form}"), label));
+            assert_eq!(of_plan, of_sheet, "{plan} {label}");
+        }
+    }
+    assert_eq!(rows("hall.sheet", "machine").len(), 3);
+}
+
+#[test]
+fn sheets_are_stored_and_come_back() {
+    let hall = 4 + 8 * 8 + 178 * 4;
+    let (lines, sheet) = stored("hall.jdr", &file("hall.jdr"));
+    assert_eq!(lines, format!("read: 0 522 8 178\nsheet_write: 0 {hall} 8 178\n"));
+    assert_eq!(sheet, Some(file("hall.sheet")));
+    let back = format!(
+        "sheet_read: 0 {hall} 8 178\ncheck: 0 522 8 178\nsheet_write: 0 {hall} 8 178\nthe same file\n"
+    );
+    assert_eq!(said("hall.sheet", None), (back, true));
+    let listed = format!("sheet_read: 0 {hall} 8 178\nlist: 0 0 0 0\n");
+    assert_eq!(said("hall.sheet", Some("press")), (listed, true));
+}
+
+#[test]
+fn what_is_refused_is_not_stored() {
+    assert_eq!(stored("cut.jdr", &file("cut.jdr")), ("read: 2 501 0 0\n".to_string(), None));
+    assert_eq!(stored("cut.sheet", &file("cut.sheet")), ("sheet_read: 19 0 0 0\n".to_string(), None));
+    for label in [None, Some("machine")] {
+        assert_eq!(said("cut.sheet", label), ("sheet_read: 19 0 0 0\n".to_string(), false));
+    }
 }

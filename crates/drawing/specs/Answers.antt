@@ -3,13 +3,14 @@ use Prim.Native.Nat.{ℕ, zero, suc, _/_}
 use mathlib.Core.List.{List, _++_}
 use lib.ListN.{length, drop}
 use lib.Dec.{leb}
-use Rattle.drawing.specs.Numbers.{accepted, contentsTooShort, bodiesTooShort, noTable, outputTooShort, listTooShort}
+use Rattle.drawing.specs.Numbers.{accepted, contentsTooShort, bodiesTooShort, noTable, outputTooShort, listTooShort, noSheet}
 use Rattle.drawing.specs.declared.Answer.{Answer}
 use Rattle.drawing.specs.Fields.{unless, orElse}
 use Rattle.drawing.specs.String.{String}
 use Rattle.drawing.specs.Drawing.{Drawing, outer, fileOf}
 use Rattle.drawing.specs.Table.{rows, rowWidth, contentsOf, bodiesOf}
 use Rattle.drawing.specs.Order.{entries}
+use Rattle.drawing.specs.Sheet.{numberBytes, sheetOf}
 
 abbrev pub answer : (number offset rows words : ℕ) → Answer
 answer n o r w = record { number = n; offset = o; rows = r; words = w }
@@ -31,7 +32,7 @@ pub record ReadResult : Type 0 where
   pub contents : List ℕ
   pub bodies : List ℕ
 
--- A file that is refused: nothing is stored.
+-- Bytes that are refused: nothing is stored.
 abbrev pub unread : (number offset : ℕ) → (contents bodies : List ℕ) → ReadResult
 unread n o contents bodies = record { answer = answer n o 0 0; contents = contents; bodies = bodies }
 
@@ -40,7 +41,7 @@ abbrev pub roomFault : Drawing → (contents bodies : List ℕ) → ℕ
 roomFault d contents bodies =
     orElse (unless (leb (rowsOf d) (length contents / rowWidth)) contentsTooShort) (unless (leb (wordCount d) (length bodies)) bodiesTooShort)
 
--- A drawing, of a file of this length, that is stored unless the room has a fault.
+-- A drawing, of bytes of this length, that is stored unless the room has a fault.
 abbrev pub stored : (fault : ℕ) → Drawing → ℕ → (contents bodies : List ℕ) → ReadResult
 stored zero d total contents bodies =
     record { answer = answer accepted total (rowsOf d) (wordCount d); contents = overwrite (contentsOf d) contents; bodies = overwrite (bodiesOf d) bodies }
@@ -69,12 +70,29 @@ pub record Output : Type 0 where
 abbrev pub nothingStored : (buffer : List ℕ) → Output
 nothingStored buffer = record { answer = tableRefused; buffer = buffer }
 
-abbrev pub written : (fault : ℕ) → Drawing → (file : List ℕ) → Output
-written zero d file = record { answer = tableChecked d; buffer = overwrite (fileOf d) file }
-written (suc n) d file = record { answer = answer (suc n) (length (fileOf d)) 0 0; buffer = file }
+-- These bytes of a drawing, stored unless the room has a fault.
+abbrev pub written : (fault : ℕ) → (bytes : List ℕ) → Drawing → (buffer : List ℕ) → Output
+written zero bytes d buffer =
+    record { answer = answer accepted (length bytes) (rowsOf d) (wordCount d); buffer = overwrite bytes buffer }
+written (suc n) bytes d buffer = record { answer = answer (suc n) (length bytes) 0 0; buffer = buffer }
+
+abbrev pub bytesWritten : (bytes : List ℕ) → Drawing → (buffer : List ℕ) → Output
+bytesWritten bytes d buffer = written (unless (leb (length bytes) (length buffer)) outputTooShort) bytes d buffer
 
 abbrev pub tableWritten : (file : List ℕ) → Drawing → Output
-tableWritten file d = written (unless (leb (length (fileOf d)) (length file)) outputTooShort) d file
+tableWritten file d = bytesWritten (fileOf d) d file
+
+-- ---- writing a table's sheet, and reading one into a table
+
+abbrev pub sheetWritten : (sheet : List ℕ) → Drawing → Output
+sheetWritten sheet d = bytesWritten (sheetOf numberBytes d) d sheet
+
+abbrev pub sheetRead : Drawing → (contents bodies : List ℕ) → ReadResult
+sheetRead d contents bodies = stored (roomFault d contents bodies) d (length (sheetOf numberBytes d)) contents bodies
+
+-- Bytes that are no sheet: nothing is stored.
+abbrev pub sheetRefused : (contents bodies : List ℕ) → ReadResult
+sheetRefused contents bodies = unread noSheet 0 contents bodies
 
 -- ---- listing the objects with a label
 

@@ -1,4 +1,4 @@
--- What each call answers, computed from its input alone: by parsing a file, or by a walk over a table. The calls are proved equal to these, and examples are
+-- What each call answers, computed from its input alone: by parsing a file, or by a walk over a table, or a sheet's. The calls are proved equal to these, and examples are
 -- computed with them. Nobody need believe them: each call also promises what Promises.antt says of the drawing itself.
 use mathlib.Core.Option.{Option, none, some}
 use Prim.Native.Nat.{ℕ}
@@ -16,11 +16,13 @@ use Rattle.drawing.specs.Drawing.{Drawing}
 use Rattle.drawing.specs.Reading.{Reading, drawing, refusal, drawingOf}
 use Rattle.drawing.specs.Table.{startIn}
 use Rattle.drawing.specs.TableDrawing.{drawingOfTable}
-use Rattle.drawing.specs.Answers.{ReadResult, unread, roomFault, stored, tableRefused, tableChecked, Output, nothingStored, tableWritten, tableListed}
+use Rattle.drawing.specs.Sheet.{numberBytes}
+use Rattle.drawing.specs.SheetDrawing.{drawingOfSheet}
+use Rattle.drawing.specs.Answers.{ReadResult, unread, roomFault, stored, tableRefused, tableChecked, Output, nothingStored, tableWritten, sheetWritten, sheetRead, sheetRefused, tableListed}
 use Rattle.drawing.specs.Extent.{ExtentGiven, noExtent, extentAsked}
 use Rattle.drawing.specs.Questions.{partOf, paintAsked, TextGiven, noText, textPart, textPlaces}
 
--- What a call comes to for the table of a drawing, and for runs that are no table.
+-- What a call comes to for what has a drawing, as a table or a sheet, and for what has none.
 abbrev pub fromTable : {R : Type 0} → (Drawing → R) → R → Option Drawing → R
 fromTable of bad none = bad
 fromTable of bad (some d) = of d
@@ -34,7 +36,7 @@ readFrom (drawing d) total contents bodies = stored (roomFault d contents bodies
 abbrev pub readResult : (file contents bodies : List ℕ) → ReadResult
 readResult file contents bodies = readFrom (drawingOf file) (length file) contents bodies
 
--- ---- checking, writing, listing
+-- ---- checking, writing, sheets, listing
 
 abbrev pub checkFrom : Option Drawing → Answer
 checkFrom o = fromTable tableChecked tableRefused o
@@ -47,6 +49,13 @@ writeFrom o file = fromTable (tableWritten file) (nothingStored file) o
 
 abbrev pub writeOutput : (contents bodies file : List ℕ) → Output
 writeOutput contents bodies file = writeFrom (drawingOfTable contents bodies) file
+
+abbrev pub sheetOutput : (contents bodies sheet : List ℕ) → Output
+sheetOutput contents bodies sheet = fromTable (sheetWritten sheet) (nothingStored sheet) (drawingOfTable contents bodies)
+
+abbrev pub sheetResult : (sheet contents bodies : List ℕ) → ReadResult
+sheetResult sheet contents bodies =
+    fromTable (λ d. sheetRead d contents bodies) (sheetRefused contents bodies) (drawingOfSheet numberBytes sheet)
 
 abbrev pub listFrom : Option Drawing → String → (list : List ℕ) → Output
 listFrom o label list = fromTable (tableListed label list) (nothingStored list) o

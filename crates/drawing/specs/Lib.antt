@@ -26,11 +26,13 @@ pub mod Drawing
 pub mod Refusal
 pub mod Table
 pub mod Order
+pub mod Sheet
 pub mod Answers
 pub mod Questions
 pub mod Extent
 pub mod Reading
 pub mod TableDrawing
+pub mod SheetDrawing
 pub mod KindLaws
 pub mod Computed
 pub mod MarkedPlans

@@ -58,6 +58,10 @@ outputTooShort = 17
 abbrev pub listTooShort : ℕ
 listTooShort = 18
 
+-- R-3's own: bytes that are no sheet
+abbrev pub noSheet : ℕ
+noSheet = 19
+
 -- R-5's own: a coordinate is not a number
 abbrev pub notANumber : ℕ
 notANumber = 20

@@ -8,6 +8,7 @@ pub mod File13
 pub mod File14
 pub mod File15
 pub mod EmptyGroups
+pub mod SheetCases
 pub mod Cases
 pub mod PathCases
 pub mod Refusals

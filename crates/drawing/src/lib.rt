@@ -5,6 +5,7 @@ pub mod letters;
 pub mod limits;
 pub mod numbers;
 pub mod row;
+pub mod sheet;
 
 // What a call gives back: 01's number, the offset, and the counts of rows and words.
 #[repr(C)]

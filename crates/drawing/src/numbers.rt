@@ -38,6 +38,8 @@ pub const OUTPUT_TOO_SHORT: u32 = 17;
 
 pub const LIST_TOO_SHORT: u32 = 18;
 
+pub const NO_SHEET: u32 = 19;
+
 pub const NOT_A_NUMBER: u32 = 20;
 
 // the questions' own

@@ -21,7 +21,7 @@ module _ (base : ℕ) where
   number-append (d ∷ ds) ys =
       rw (number-append ds ys, length-append ds ys, pow-add base (length ds) (length ys)) (omega arith)
 
-  below-take : (n : ℕ) (s : List ℕ) → Below base s → Below base (take n s)
+  pub below-take : (n : ℕ) (s : List ℕ) → Below base s → Below base (take n s)
   below-take zero s h = tt
   below-take (suc n) [] h = tt
   below-take (suc n) (d ∷ ds) h = (h .0, below-take n ds (h .1))

@@ -29,4 +29,6 @@ pub mod LiteralLaws
 pub mod SpliceLaws
 pub mod PassLaws
 pub mod RunLaws
+pub mod Packed
+pub mod PackedLaws
 pub mod SignedExamples

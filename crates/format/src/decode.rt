@@ -15,7 +15,7 @@ pub fn byte_at(file: &[u8], at: usize) -> u32
 }
 
 // A char with its bytes exchanged. Of a sum whose first byte is the lowest the compiler makes one load, and of many such sums loads of several chars.
-fn exchanged_char_at(file: &[u8], at: usize) -> u32
+pub fn exchanged_char_at(file: &[u8], at: usize) -> u32
     requires { ⌜ at + 2 ≤ length (now file) ⌝ }
     ensures { λ r. ⌜ (r % 256 * 256 + r / 256 ≡ number 256 (take 2 (drop at (now (file .entry))))) × (r < 65536) ⌝ }
 {

@@ -1,9 +1,14 @@
 -- From a file's bytes to a table's words.
 use mathlib.Core.Path.{_≡_, refl}
 use mathlib.Core.Logic.{inl}
-use Prim.Native.Nat.{_^_}
+use Prim.Native.Nat.{ℕ, _^_}
 use native.Mathlib.Omega.{arith}
-use mir.Syntax.{Width, w8}
+use mathlib.Core.List.{List}
+use lib.ListN.{getD}
+use mir.Syntax.{w8}
+use mir.Val.{Fits}
+use Rattle.format.specs.Digits.{Below}
+use Rattle.format.specs.LeafLaws.{known-below}
 use Rattle.drawing.specs.Codecs.{byteFields, wordFields}
 use Rattle.ways.specs.Way.{Units, Exact, Way, codec}
 
@@ -46,9 +51,12 @@ way =
       tells = inl exact;
     }
 
--- The source's units.
-abbrev pub unit : Width
-unit = w8
+-- The units that the source's memory holds: the bytes themselves.
+abbrev pub units : List ℕ → List ℕ
+units us = us
+
+pub units-below : (us : List ℕ) → ((i : ℕ) → Fits w8 (getD us i 0)) → Below (way .source .base) (units us)
+units-below us known = known-below w8 us known
 
 -- The codecs are those of the definitions.
 pub from-file : codec (way .source) ≡ byteFields

@@ -22,7 +22,7 @@ ghost use Rattle.drawing.specs.Path.{joinedPoint};
 ghost use Rattle.format.specs.Layout.{field, _&_, repeat};
 ghost use Rattle.from_file.specs.Groups.{Stands, EachOf};
 ghost use Rattle.from_file.specs.Lays.{Begins, Lays};
-ghost use Rattle.from_file.specs.Way.{way};
+ghost use Rattle.from_file.specs.Way.{way, units};
 ghost use Rattle.ways.specs.Moves.{Led};
 ghost use Rattle.ways.specs.Segments.{doublesBehind, segmentThen, spelled, endBefore, Ended};
 ghost use Rattle.ways.specs.TextLaws as X;
@@ -47,8 +47,8 @@ pub enum Group {
 
 // One by one, which finds the one at fault.
 fn each_component(src: &[Unit], dst: &mut [Kept], at: usize, to: usize, count: usize) -> Pass
-    requires { ⌜ Begins (now src) at to ⌝ }
-    ensures { λ r. ⌜ Lays (repeat count (field F.component)) (now (src .entry)) (now (dst .entry)) (now (dst .exit)) at to r ⌝ }
+    requires { ⌜ Begins (units (now src)) at to ⌝ }
+    ensures { λ r. ⌜ Lays (repeat count (field F.component)) (units (now (src .entry))) (now (dst .entry)) (now (dst .exit)) at to r ⌝ }
 {
     let mut behind = Pass { at: at, to: to };
     let mut left = count;
@@ -61,18 +61,18 @@ fn each_component(src: &[Unit], dst: &mut [Kept], at: usize, to: usize, count: u
 }
 
 fn each_of_color(src: &[Unit], dst: &mut [Kept], at: usize, to: usize, count: usize) -> Pass
-    requires { ⌜ Begins (now src) at to ⌝ }
-    requires { ⌜ (at + sourceUnits way 2 ≤ length (now src)) × (valueAt way 2 (now src) at < 256 ^ 2) ⌝ }
-    ensures { λ r. ⌜ Led way (repeat count (field F.component) .format) (now (src .entry)) (now (dst .entry)) (now (dst .exit)) at to r ⌝ }
+    requires { ⌜ Begins (units (now src)) at to ⌝ }
+    requires { ⌜ (at + sourceUnits way 2 ≤ length (units (now src))) × (valueAt way 2 (units (now src)) at < 256 ^ 2) ⌝ }
+    ensures { λ r. ⌜ Led way (repeat count (field F.component) .format) (units (now (src .entry))) (now (dst .entry)) (now (dst .exit)) at to r ⌝ }
 {
     let told = keep(&*src, dst, at, to, 2);
     each_component(&*src, dst, told.at, told.to, count)
 }
 
 fn each_of_hsb(src: &[Unit], dst: &mut [Kept], at: usize, to: usize) -> Pass
-    requires { ⌜ Begins (now src) at to ⌝ }
-    requires { ⌜ (at + sourceUnits way 2 ≤ length (now src)) × (valueAt way 2 (now src) at < 256 ^ 2) ⌝ }
-    ensures { λ r. ⌜ Led way ((field F.hue & repeat 3 (field F.component)) .format) (now (src .entry)) (now (dst .entry)) (now (dst .exit)) at to r ⌝ }
+    requires { ⌜ Begins (units (now src)) at to ⌝ }
+    requires { ⌜ (at + sourceUnits way 2 ≤ length (units (now src))) × (valueAt way 2 (units (now src)) at < 256 ^ 2) ⌝ }
+    ensures { λ r. ⌜ Led way ((field F.hue & repeat 3 (field F.component)) .format) (units (now (src .entry))) (now (dst .entry)) (now (dst .exit)) at to r ⌝ }
 {
     let told = keep(&*src, dst, at, to, 2);
     let taken = hue(&*src, dst, told.at, told.to);
@@ -82,8 +82,8 @@ fn each_of_hsb(src: &[Unit], dst: &mut [Kept], at: usize, to: usize) -> Pass
 
 // One by one, which finds the one at fault.
 fn each_of_face(src: &[Unit], dst: &mut [Kept], at: usize, to: usize) -> Pass
-    requires { ⌜ Begins (now src) at to ⌝ }
-    ensures { λ r. ⌜ Lays X.face (now (src .entry)) (now (dst .entry)) (now (dst .exit)) at to r ⌝ }
+    requires { ⌜ Begins (units (now src)) at to ⌝ }
+    ensures { λ r. ⌜ Lays X.face (units (now (src .entry))) (now (dst .entry)) (now (dst .exit)) at to r ⌝ }
 {
     let shape = byte(&*src, dst, at, to, 0, LAST_SHAPE);
     let shaped = shape.pass;
@@ -105,9 +105,9 @@ fn doubles_behind(letter: u64) -> u64
 
 // A letter and its points one by one, after so many doubles of a start that is free.
 fn each_of_segment(src: &[Unit], dst: &mut [Kept], at: usize, to: usize, start: u64) -> Pass
-    requires { ⌜ Begins (now src) at to ⌝ }
+    requires { ⌜ Begins (units (now src)) at to ⌝ }
     requires { ⌜ start ≤ 2 ⌝ }
-    ensures { λ r. ⌜ Ended (spelled start) way (now (src .entry)) (now (dst .entry)) (now (dst .exit)) at to r ⌝ }
+    ensures { λ r. ⌜ Ended (spelled start) way (units (now (src .entry))) (now (dst .entry)) (now (dst .exit)) at to r ⌝ }
 {
     let told = segment_letter(&*src, dst, at, to);
     let letter = told.value;
@@ -118,9 +118,9 @@ fn each_of_segment(src: &[Unit], dst: &mut [Kept], at: usize, to: usize, start: 
 
 // A start with the very bits of the end before the letter, which stands where the two join.
 fn joined_start(src: &[Unit], dst: &mut [Kept], at: usize, to: usize, joint: usize) -> Pass
-    requires { ⌜ Begins (now src) at to ⌝ }
-    requires { ⌜ (2 * sourceUnits way 8 ≤ joint) × (joint ≤ length (now src)) ⌝ }
-    ensures { λ r. ⌜ Lays (joinedPoint (some (endBefore way (now (src .entry)) joint))) (now (src .entry)) (now (dst .entry)) (now (dst .exit)) at to r ⌝ }
+    requires { ⌜ Begins (units (now src)) at to ⌝ }
+    requires { ⌜ (2 * sourceUnits way 8 ≤ joint) × (joint ≤ length (units (now src))) ⌝ }
+    ensures { λ r. ⌜ Lays (joinedPoint (some (endBefore way (units (now (src .entry))) joint))) (units (now (src .entry))) (now (dst .entry)) (now (dst .exit)) at to r ⌝ }
 {
     let units = source_units(8);
     let x = get(&*src, joint - 2 * units, 8);
@@ -132,9 +132,9 @@ fn joined_start(src: &[Unit], dst: &mut [Kept], at: usize, to: usize, joint: usi
 }
 
 fn each_of_joined(src: &[Unit], dst: &mut [Kept], at: usize, to: usize) -> Pass
-    requires { ⌜ Begins (now src) at to ⌝ }
-    requires { ⌜ (2 * sourceUnits way 8 ≤ at) × (at ≤ length (now src)) ⌝ }
-    ensures { λ r. ⌜ Ended (segmentThen true (some (endBefore way (now (src .entry)) at))) way (now (src .entry)) (now (dst .entry)) (now (dst .exit)) at to r ⌝ }
+    requires { ⌜ Begins (units (now src)) at to ⌝ }
+    requires { ⌜ (2 * sourceUnits way 8 ≤ at) × (at ≤ length (units (now src))) ⌝ }
+    ensures { λ r. ⌜ Ended (segmentThen true (some (endBefore way (units (now (src .entry))) at))) way (units (now (src .entry))) (now (dst .entry)) (now (dst .exit)) at to r ⌝ }
 {
     let told = segment_letter(&*src, dst, at, to);
     let letter = told.value;
@@ -145,9 +145,9 @@ fn each_of_joined(src: &[Unit], dst: &mut [Kept], at: usize, to: usize) -> Pass
 }
 
 pub fn each(src: &[Unit], dst: &mut [Kept], at: usize, to: usize, group: Group) -> Pass
-    requires { ⌜ Begins (now src) at to ⌝ }
-    requires { ⌜ Stands group (now src) at ⌝ }
-    ensures { λ r. ⌜ EachOf group (now (src .entry)) (now (dst .entry)) (now (dst .exit)) at to r ⌝ }
+    requires { ⌜ Begins (units (now src)) at to ⌝ }
+    requires { ⌜ Stands group (units (now src)) at ⌝ }
+    ensures { λ r. ⌜ EachOf group (units (now (src .entry))) (now (dst .entry)) (now (dst .exit)) at to r ⌝ }
 {
     match group {
         Group::Color(count) => each_of_color(&*src, dst, at, to, count),

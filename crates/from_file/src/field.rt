@@ -32,7 +32,7 @@ ghost use Rattle.memory.specs.Sizes.{isField};
 ghost use Rattle.ways.specs.Steps.{Refused, Keeps, Small};
 ghost use Rattle.ways.specs.Faults.{Between};
 ghost use Rattle.ways.specs.FieldPassLaws.{shadeKind};
-ghost use Rattle.from_file.specs.Way.{way};
+ghost use Rattle.from_file.specs.Way.{way, units};
 ghost use Rattle.from_file.specs.Lays.{Begins, Asks, Ranges, Counts};
 
 // four bytes: the highest number, and the highest signed one
@@ -111,9 +111,9 @@ fn ranged(
     high: u64,
     fault: u32,
 ) -> FieldPass
-    requires { ⌜ Begins (now src) at to ⌝ }
+    requires { ⌜ Begins (units (now src)) at to ⌝ }
     requires { ⌜ (isField size ≡ true) × (size ≤ 8) × (high < 256 ^ size) × (0 < fault) ⌝ }
-    ensures { λ r. ⌜ Ranges size low high fault (now (src .entry)) (now (dst .entry)) (now (dst .exit)) at to r ⌝ }
+    ensures { λ r. ⌜ Ranges size low high fault (units (now (src .entry))) (now (dst .entry)) (now (dst .exit)) at to r ⌝ }
 {
     if there(&*src, at, size, (size + 3) / 4) {
         let value = get(&*src, at, size);
@@ -123,38 +123,38 @@ fn ranged(
 }
 
 pub fn byte(src: &[Unit], dst: &mut [Kept], at: usize, to: usize, low: u64, high: u64) -> FieldPass
-    requires { ⌜ Begins (now src) at to ⌝ }
+    requires { ⌜ Begins (units (now src)) at to ⌝ }
     requires { ⌜ high < 128 ⌝ }
-    ensures { λ r. ⌜ Asks (F.byteIn low high) (now (src .entry)) (now (dst .entry)) (now (dst .exit)) at to r ⌝ }
+    ensures { λ r. ⌜ Asks (F.byteIn low high) (units (now (src .entry))) (now (dst .entry)) (now (dst .exit)) at to r ⌝ }
 {
     ranged(&*src, dst, at, to, 1, low, high, OUT_OF_RANGE)
 }
 
 pub fn flag(src: &[Unit], dst: &mut [Kept], at: usize, to: usize) -> FieldPass
-    requires { ⌜ Begins (now src) at to ⌝ }
-    ensures { λ r. ⌜ Asks F.flag (now (src .entry)) (now (dst .entry)) (now (dst .exit)) at to r ⌝ }
+    requires { ⌜ Begins (units (now src)) at to ⌝ }
+    ensures { λ r. ⌜ Asks F.flag (units (now (src .entry))) (now (dst .entry)) (now (dst .exit)) at to r ⌝ }
 {
     ranged(&*src, dst, at, to, 1, 0, 1, BAD_FLAG)
 }
 
 pub fn integer(src: &[Unit], dst: &mut [Kept], at: usize, to: usize) -> FieldPass
-    requires { ⌜ Begins (now src) at to ⌝ }
-    ensures { λ r. ⌜ Asks F.integer (now (src .entry)) (now (dst .entry)) (now (dst .exit)) at to r ⌝ }
+    requires { ⌜ Begins (units (now src)) at to ⌝ }
+    ensures { λ r. ⌜ Asks F.integer (units (now (src .entry))) (now (dst .entry)) (now (dst .exit)) at to r ⌝ }
 {
     ranged(&*src, dst, at, to, 4, 0, LAST_WORD, OUT_OF_RANGE)
 }
 
 pub fn integer_to(src: &[Unit], dst: &mut [Kept], at: usize, to: usize, high: u64) -> FieldPass
-    requires { ⌜ Begins (now src) at to ⌝ }
+    requires { ⌜ Begins (units (now src)) at to ⌝ }
     requires { ⌜ high < 2147483648 ⌝ }
-    ensures { λ r. ⌜ Asks (F.integerIn 0 high) (now (src .entry)) (now (dst .entry)) (now (dst .exit)) at to r ⌝ }
+    ensures { λ r. ⌜ Asks (F.integerIn 0 high) (units (now (src .entry))) (now (dst .entry)) (now (dst .exit)) at to r ⌝ }
 {
     ranged(&*src, dst, at, to, 4, 0, high, OUT_OF_RANGE)
 }
 
 pub fn float(src: &[Unit], dst: &mut [Kept], at: usize, to: usize) -> FieldPass
-    requires { ⌜ Begins (now src) at to ⌝ }
-    ensures { λ r. ⌜ Asks F.float (now (src .entry)) (now (dst .entry)) (now (dst .exit)) at to r ⌝ }
+    requires { ⌜ Begins (units (now src)) at to ⌝ }
+    ensures { λ r. ⌜ Asks F.float (units (now (src .entry))) (now (dst .entry)) (now (dst .exit)) at to r ⌝ }
 {
     ranged(&*src, dst, at, to, 4, 0, LAST_WORD, OUT_OF_RANGE)
 }
@@ -170,8 +170,8 @@ fn shade_fault(bits: u64, hue: bool) -> u32
 }
 
 fn shade(src: &[Unit], dst: &mut [Kept], at: usize, to: usize, hue: bool) -> FieldPass
-    requires { ⌜ Begins (now src) at to ⌝ }
-    ensures { λ r. ⌜ Asks (shadeKind hue) (now (src .entry)) (now (dst .entry)) (now (dst .exit)) at to r ⌝ }
+    requires { ⌜ Begins (units (now src)) at to ⌝ }
+    ensures { λ r. ⌜ Asks (shadeKind hue) (units (now (src .entry))) (now (dst .entry)) (now (dst .exit)) at to r ⌝ }
 {
     if there(&*src, at, 4, 1) {
         let bits = get(&*src, at, 4);
@@ -181,31 +181,31 @@ fn shade(src: &[Unit], dst: &mut [Kept], at: usize, to: usize, hue: bool) -> Fie
 }
 
 pub fn component(src: &[Unit], dst: &mut [Kept], at: usize, to: usize) -> FieldPass
-    requires { ⌜ Begins (now src) at to ⌝ }
-    ensures { λ r. ⌜ Asks F.component (now (src .entry)) (now (dst .entry)) (now (dst .exit)) at to r ⌝ }
+    requires { ⌜ Begins (units (now src)) at to ⌝ }
+    ensures { λ r. ⌜ Asks F.component (units (now (src .entry))) (now (dst .entry)) (now (dst .exit)) at to r ⌝ }
 {
     shade(&*src, dst, at, to, false)
 }
 
 pub fn hue(src: &[Unit], dst: &mut [Kept], at: usize, to: usize) -> FieldPass
-    requires { ⌜ Begins (now src) at to ⌝ }
-    ensures { λ r. ⌜ Asks F.hue (now (src .entry)) (now (dst .entry)) (now (dst .exit)) at to r ⌝ }
+    requires { ⌜ Begins (units (now src)) at to ⌝ }
+    ensures { λ r. ⌜ Asks F.hue (units (now (src .entry))) (now (dst .entry)) (now (dst .exit)) at to r ⌝ }
 {
     shade(&*src, dst, at, to, true)
 }
 
 // A coordinate with the very bits of another.
 pub fn joined(src: &[Unit], dst: &mut [Kept], at: usize, to: usize, bits: u64) -> FieldPass
-    requires { ⌜ Begins (now src) at to ⌝ }
-    ensures { λ r. ⌜ Asks (F.joined bits) (now (src .entry)) (now (dst .entry)) (now (dst .exit)) at to r ⌝ }
+    requires { ⌜ Begins (units (now src)) at to ⌝ }
+    ensures { λ r. ⌜ Asks (F.joined bits) (units (now (src .entry))) (now (dst .entry)) (now (dst .exit)) at to r ⌝ }
 {
     ranged(&*src, dst, at, to, 8, bits, bits, UNJOINED)
 }
 
 // A count or a length is a signed number, and no less than the least: it is refused before anything is counted by it.
 pub fn count(src: &[Unit], dst: &mut [Kept], at: usize, to: usize, least: u32) -> FieldPass
-    requires { ⌜ Begins (now src) at to ⌝ }
-    ensures { λ r. ⌜ Counts least (now (src .entry)) (now (dst .entry)) (now (dst .exit)) at to r ⌝ }
+    requires { ⌜ Begins (units (now src)) at to ⌝ }
+    ensures { λ r. ⌜ Counts least (units (now (src .entry))) (now (dst .entry)) (now (dst .exit)) at to r ⌝ }
 {
     if there(&*src, at, 4, 1) {
         let word = get(&*src, at, 4);
@@ -215,8 +215,8 @@ pub fn count(src: &[Unit], dst: &mut [Kept], at: usize, to: usize, least: u32) -
 }
 
 pub fn dash_count(src: &[Unit], dst: &mut [Kept], at: usize, to: usize) -> FieldPass
-    requires { ⌜ Begins (now src) at to ⌝ }
-    ensures { λ r. ⌜ Asks F.dashCount (now (src .entry)) (now (dst .entry)) (now (dst .exit)) at to r × (r .value < 2 ^ 32) ⌝ }
+    requires { ⌜ Begins (units (now src)) at to ⌝ }
+    ensures { λ r. ⌜ Asks F.dashCount (units (now (src .entry))) (now (dst .entry)) (now (dst .exit)) at to r × (r .value < 2 ^ 32) ⌝ }
 {
     if there(&*src, at, 4, 1) {
         let word = get(&*src, at, 4);
@@ -226,8 +226,8 @@ pub fn dash_count(src: &[Unit], dst: &mut [Kept], at: usize, to: usize) -> Field
 }
 
 pub fn font_size(src: &[Unit], dst: &mut [Kept], at: usize, to: usize) -> FieldPass
-    requires { ⌜ Begins (now src) at to ⌝ }
-    ensures { λ r. ⌜ Asks F.fontSize (now (src .entry)) (now (dst .entry)) (now (dst .exit)) at to r ⌝ }
+    requires { ⌜ Begins (units (now src)) at to ⌝ }
+    ensures { λ r. ⌜ Asks F.fontSize (units (now (src .entry))) (now (dst .entry)) (now (dst .exit)) at to r ⌝ }
 {
     if there(&*src, at, 4, 1) {
         let word = get(&*src, at, 4);
@@ -250,8 +250,8 @@ fn flow_fault(flow: u64) -> u32
 }
 
 pub fn flow_flag(src: &[Unit], dst: &mut [Kept], at: usize, to: usize) -> FieldPass
-    requires { ⌜ Begins (now src) at to ⌝ }
-    ensures { λ r. ⌜ Asks F.flowFlag (now (src .entry)) (now (dst .entry)) (now (dst .exit)) at to r ⌝ }
+    requires { ⌜ Begins (units (now src)) at to ⌝ }
+    ensures { λ r. ⌜ Asks F.flowFlag (units (now (src .entry))) (now (dst .entry)) (now (dst .exit)) at to r ⌝ }
 {
     if there(&*src, at, 1, 1) {
         let flow = get(&*src, at, 1);
@@ -279,8 +279,8 @@ pub fn marker_id(
     high: u32,
     more: bool,
 ) -> FieldPass
-    requires { ⌜ Begins (now src) at to ⌝ }
-    ensures { λ r. ⌜ Asks (F.markerId high more) (now (src .entry)) (now (dst .entry)) (now (dst .exit)) at to r ⌝ }
+    requires { ⌜ Begins (units (now src)) at to ⌝ }
+    ensures { λ r. ⌜ Asks (F.markerId high more) (units (now (src .entry))) (now (dst .entry)) (now (dst .exit)) at to r ⌝ }
 {
     if there(&*src, at, 1, 1) {
         let id = get(&*src, at, 1);

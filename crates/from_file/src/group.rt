@@ -12,13 +12,13 @@ ghost use lib.ListN.{length};
 ghost use Rattle.memory.specs.Sizes.{isField};
 ghost use Rattle.ways.specs.Way.{sourceUnits, valueAt};
 ghost use Rattle.ways.specs.Moves.{Moved};
-ghost use Rattle.from_file.specs.Way.{way};
+ghost use Rattle.from_file.specs.Way.{way, units};
 ghost use Rattle.from_file.specs.Lays.{Begins};
 
 pub fn keep(src: &[Unit], dst: &mut [Kept], at: usize, to: usize, size: usize) -> Pass
-    requires { ⌜ Begins (now src) at to ⌝ }
-    requires { ⌜ (isField size ≡ true) × (at + sourceUnits way size ≤ length (now src)) × (valueAt way size (now src) at < 256 ^ size) ⌝ }
-    ensures { λ r. ⌜ Moved way size 1 (now (src .entry)) (now (dst .entry)) (now (dst .exit)) at to r ⌝ }
+    requires { ⌜ Begins (units (now src)) at to ⌝ }
+    requires { ⌜ (isField size ≡ true) × (at + sourceUnits way size ≤ length (units (now src))) × (valueAt way size (units (now src)) at < 256 ^ size) ⌝ }
+    ensures { λ r. ⌜ Moved way size 1 (units (now (src .entry))) (now (dst .entry)) (now (dst .exit)) at to r ⌝ }
 {
     let value = get(&*src, at, size);
     put(dst, to, size, value);
@@ -27,9 +27,9 @@ pub fn keep(src: &[Unit], dst: &mut [Kept], at: usize, to: usize, size: usize) -
 
 // So many words, few enough to be taken one by one.
 pub fn keep_words(src: &[Unit], dst: &mut [Kept], at: usize, to: usize, count: usize) -> Pass
-    requires { ⌜ Begins (now src) at to ⌝ }
-    requires { ⌜ at + count * sourceUnits way 4 ≤ length (now src) ⌝ }
-    ensures { λ r. ⌜ Moved way 4 count (now (src .entry)) (now (dst .entry)) (now (dst .exit)) at to r ⌝ }
+    requires { ⌜ Begins (units (now src)) at to ⌝ }
+    requires { ⌜ at + count * sourceUnits way 4 ≤ length (units (now src)) ⌝ }
+    ensures { λ r. ⌜ Moved way 4 count (units (now (src .entry))) (now (dst .entry)) (now (dst .exit)) at to r ⌝ }
 {
     let mut behind = Pass { at: at, to: to };
     let mut left = count;
@@ -42,9 +42,9 @@ pub fn keep_words(src: &[Unit], dst: &mut [Kept], at: usize, to: usize, count: u
 
 // So many points.
 pub fn keep_points(src: &[Unit], dst: &mut [Kept], at: usize, to: usize, count: usize) -> Pass
-    requires { ⌜ Begins (now src) at to ⌝ }
-    requires { ⌜ at + 2 * count * sourceUnits way 8 ≤ length (now src) ⌝ }
-    ensures { λ r. ⌜ Moved way 8 (2 * count) (now (src .entry)) (now (dst .entry)) (now (dst .exit)) at to r ⌝ }
+    requires { ⌜ Begins (units (now src)) at to ⌝ }
+    requires { ⌜ at + 2 * count * sourceUnits way 8 ≤ length (units (now src)) ⌝ }
+    ensures { λ r. ⌜ Moved way 8 (2 * count) (units (now (src .entry))) (now (dst .entry)) (now (dst .exit)) at to r ⌝ }
 {
     let mut behind = Pass { at: at, to: to };
     let mut left = count;

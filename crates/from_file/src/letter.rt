@@ -16,7 +16,7 @@ ghost use mathlib.Core.Path.{_≡_};
 ghost use mathlib.Core.Bool.{true};
 ghost use Prim.Native.Nat.{_*_, _^_, _<_};
 ghost use Rattle.ways.specs.Segments.{straight, closedLetter, segmentLetter};
-ghost use Rattle.from_file.specs.Way.{way};
+ghost use Rattle.from_file.specs.Way.{way, units};
 ghost use Rattle.from_file.specs.Lays.{Begins, Asks};
 ghost use Rattle.drawing.specs.Fields.{unless};
 ghost use Rattle.ways.specs.FieldPassLaws.{OneOf, isOneOf};
@@ -37,9 +37,9 @@ fn letter_fault(letter: u64, a: u64, b: u64, c: u64) -> u32
 }
 
 fn one_of(src: &[Unit], dst: &mut [Kept], at: usize, to: usize, a: u64, b: u64, c: u64) -> FieldPass
-    requires { ⌜ Begins (now src) at to ⌝ }
+    requires { ⌜ Begins (units (now src)) at to ⌝ }
     requires { ⌜ (a < 256 ^ 2) × (b < 256 ^ 2) × (c < 256 ^ 2) ⌝ }
-    ensures { λ r. ⌜ OneOf way a b c (now (src .entry)) (now (dst .entry)) (now (dst .exit)) at to r ⌝ }
+    ensures { λ r. ⌜ OneOf way a b c (units (now (src .entry))) (now (dst .entry)) (now (dst .exit)) at to r ⌝ }
 {
     if there(&*src, at, 2, 1) {
         let letter = get(&*src, at, 2);
@@ -49,15 +49,15 @@ fn one_of(src: &[Unit], dst: &mut [Kept], at: usize, to: usize, a: u64, b: u64, 
 }
 
 pub fn closed_letter(src: &[Unit], dst: &mut [Kept], at: usize, to: usize) -> FieldPass
-    requires { ⌜ Begins (now src) at to ⌝ }
-    ensures { λ r. ⌜ Asks closedLetter (now (src .entry)) (now (dst .entry)) (now (dst .exit)) at to r ⌝ }
+    requires { ⌜ Begins (units (now src)) at to ⌝ }
+    ensures { λ r. ⌜ Asks closedLetter (units (now (src .entry))) (now (dst .entry)) (now (dst .exit)) at to r ⌝ }
 {
     one_of(&*src, dst, at, to, OPEN, CLOSED, CLOSED)
 }
 
 pub fn segment_letter(src: &[Unit], dst: &mut [Kept], at: usize, to: usize) -> FieldPass
-    requires { ⌜ Begins (now src) at to ⌝ }
-    ensures { λ r. ⌜ Asks segmentLetter (now (src .entry)) (now (dst .entry)) (now (dst .exit)) at to r ⌝ }
+    requires { ⌜ Begins (units (now src)) at to ⌝ }
+    ensures { λ r. ⌜ Asks segmentLetter (units (now (src .entry))) (now (dst .entry)) (now (dst .exit)) at to r ⌝ }
 {
     one_of(&*src, dst, at, to, LINE, MOVE, CURVE)
 }

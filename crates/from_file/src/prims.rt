@@ -20,23 +20,30 @@ ghost use Rattle.ways.specs.Way.{sourceUnits, targetUnits, valueAt};
 ghost use Rattle.ways.specs.Passes.{refusalOf, stepped, aheadOf};
 ghost use Rattle.ways.specs.Steps.{Fits, Small};
 ghost use Rattle.ways.specs.Runs.{AllSmall, HasWide, copied};
-ghost use Rattle.from_file.specs.Way.{way};
+ghost use Rattle.from_file.specs.Way.{way, units};
 
 pub type Unit = u8;
 
 pub type Kept = u32;
 
+// How many units the source has.
+pub fn source_length(src: &[Unit]) -> usize
+    ensures { λ r. ⌜ r ≡ length (units (now (src .entry))) ⌝ }
+{
+    src.len()
+}
+
 // So many bytes are there, which they never are behind a refusal.
 pub fn there(src: &[Unit], at: usize, bytes: usize, words: usize) -> bool
     requires { ⌜ at + way .source .pick bytes words < 2 ^ 60 ⌝ }
-    ensures { λ r. ⌜ Fits way bytes words (now (src .entry)) at r ⌝ }
+    ensures { λ r. ⌜ Fits way bytes words (units (now (src .entry))) at r ⌝ }
 {
     at + bytes <= src.len()
 }
 
 pub fn get(src: &[Unit], at: usize, size: usize) -> u64
-    requires { ⌜ (isField size ≡ true) × (at + sourceUnits way size ≤ length (now src)) ⌝ }
-    ensures { λ r. ⌜ (r ≡ valueAt way size (now (src .entry)) at) × (r < way .source .base ^ sourceUnits way size) ⌝ }
+    requires { ⌜ (isField size ≡ true) × (at + sourceUnits way size ≤ length (units (now src))) ⌝ }
+    ensures { λ r. ⌜ (r ≡ valueAt way size (units (now (src .entry))) at) × (r < way .source .base ^ sourceUnits way size) ⌝ }
 {
     match size {
         1 => byte_at(&*src, at) as u64,
@@ -92,8 +99,8 @@ pub fn refusal(number: u32, at: usize) -> Pass
 
 // So many fields, which are there, put one behind the other where they fit.
 pub fn copy(src: &[Unit], dst: &mut [Kept], at: usize, to: usize, size: usize, count: usize)
-    requires { ⌜ (isRun size ≡ true) × (at + count * sourceUnits way size ≤ length (now src)) × AllSmall way size (now src) at count ⌝ }
-    ensures { λ r. ⌜ now (dst .exit) ≡ copied way size count (now (src .entry)) at to (now (dst .entry)) ⌝ }
+    requires { ⌜ (isRun size ≡ true) × (at + count * sourceUnits way size ≤ length (units (now src))) × AllSmall way size (units (now src)) at count ⌝ }
+    ensures { λ r. ⌜ now (dst .exit) ≡ copied way size count (units (now (src .entry))) at to (now (dst .entry)) ⌝ }
 {
     if 0 < dst.len() {
         store_run(&*src, at, dst, to, size, count);
@@ -102,8 +109,8 @@ pub fn copy(src: &[Unit], dst: &mut [Kept], at: usize, to: usize, size: usize, c
 
 // The same for chars.
 pub fn copy_chars(src: &[Unit], dst: &mut [Kept], at: usize, to: usize, count: usize)
-    requires { ⌜ (at + count * sourceUnits way 2 ≤ length (now src)) × AllSmall way 2 (now src) at count ⌝ }
-    ensures { λ r. ⌜ now (dst .exit) ≡ copied way 2 count (now (src .entry)) at to (now (dst .entry)) ⌝ }
+    requires { ⌜ (at + count * sourceUnits way 2 ≤ length (units (now src))) × AllSmall way 2 (units (now src)) at count ⌝ }
+    ensures { λ r. ⌜ now (dst .exit) ≡ copied way 2 count (units (now (src .entry))) at to (now (dst .entry)) ⌝ }
 {
     if 0 < dst.len() {
         store_chars(&*src, at, dst, to, count);
@@ -112,8 +119,8 @@ pub fn copy_chars(src: &[Unit], dst: &mut [Kept], at: usize, to: usize, count: u
 
 // A unit that is no value of a field in a run: none is in a file.
 pub fn has_wide(src: &[Unit], at: usize, size: usize, count: usize) -> bool
-    requires { ⌜ (isRun size ≡ true) × (at + count * sourceUnits way size ≤ length (now src)) × (length (now src) ≤ lengthLimit) ⌝ }
-    ensures { λ r. ⌜ HasWide way size (now (src .entry)) at count r ⌝ }
+    requires { ⌜ (isRun size ≡ true) × (at + count * sourceUnits way size ≤ length (units (now src))) × (length (units (now src)) ≤ lengthLimit) ⌝ }
+    ensures { λ r. ⌜ HasWide way size (units (now (src .entry))) at count r ⌝ }
 {
     false
 }

@@ -5,6 +5,7 @@ use crate::prims::copy;
 use crate::prims::copy_chars;
 use crate::prims::has_wide;
 use crate::prims::refusal;
+use crate::prims::source_length;
 use crate::prims::source_units;
 use crate::prims::step;
 use crate::prims::there;
@@ -18,26 +19,27 @@ ghost use Rattle.drawing.specs.String as S;
 ghost use Rattle.memory.specs.Sizes.{isRun};
 ghost use Rattle.ways.specs.Steps.{CutRun};
 ghost use Rattle.ways.specs.Runs.{Runs};
-ghost use Rattle.from_file.specs.Way.{way};
+ghost use Rattle.from_file.specs.Way.{way, units};
 ghost use Rattle.from_file.specs.Lays.{Begins, Lays};
 
 // A run that is cut is refused at the first field that is not whole.
 fn cut_run(src: &[Unit], at: usize, to: usize, size: usize) -> Pass
-    requires { ⌜ Begins (now src) at to ⌝ }
+    requires { ⌜ Begins (units (now src)) at to ⌝ }
     requires { ⌜ isRun size ≡ true ⌝ }
-    ensures { λ r. ⌜ CutRun way size (now (src .entry)) at to r ⌝ }
+    ensures { λ r. ⌜ CutRun way size (units (now (src .entry))) at to r ⌝ }
 {
     if REFUSED <= at {
         return Pass { at: at, to: to };
     }
+    let all = source_length(&*src);
     let units = source_units(size);
-    refusal(CUT, at + (src.len() - at) / units * units)
+    refusal(CUT, at + (all - at) / units * units)
 }
 
 pub fn run(src: &[Unit], dst: &mut [Kept], at: usize, to: usize, size: usize, count: u64) -> Pass
-    requires { ⌜ Begins (now src) at to ⌝ }
+    requires { ⌜ Begins (units (now src)) at to ⌝ }
     requires { ⌜ (isRun size ≡ true) × (count ≤ 2 ^ 32) ⌝ }
-    ensures { λ r. ⌜ Runs way size count (now (src .entry)) (now (dst .entry)) (now (dst .exit)) at to r ⌝ }
+    ensures { λ r. ⌜ Runs way size count (units (now (src .entry))) (now (dst .entry)) (now (dst .exit)) at to r ⌝ }
 {
     let n = count as usize;
     if there(&*src, at, n * size, n * ((size + 3) / 4)) {
@@ -52,9 +54,9 @@ pub fn run(src: &[Unit], dst: &mut [Kept], at: usize, to: usize, size: usize, co
 
 // Chars: strings are most of a file.
 pub fn chars(src: &[Unit], dst: &mut [Kept], at: usize, to: usize, count: u64) -> Pass
-    requires { ⌜ Begins (now src) at to ⌝ }
+    requires { ⌜ Begins (units (now src)) at to ⌝ }
     requires { ⌜ count < 2 ^ 32 ⌝ }
-    ensures { λ r. ⌜ Lays (S.chars count) (now (src .entry)) (now (dst .entry)) (now (dst .exit)) at to r ⌝ }
+    ensures { λ r. ⌜ Lays (S.chars count) (units (now (src .entry))) (now (dst .entry)) (now (dst .exit)) at to r ⌝ }
 {
     let n = count as usize;
     if there(&*src, at, n * 2, n) {

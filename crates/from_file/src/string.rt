@@ -6,10 +6,11 @@ use crate::run::chars;
 use ways::Pass;
 ghost use Rattle.drawing.specs.String.{string};
 ghost use Rattle.from_file.specs.Lays.{Begins, Lays};
+ghost use Rattle.from_file.specs.Way.{units};
 
 pub fn string(src: &[Unit], dst: &mut [Kept], at: usize, to: usize, least: u32) -> Pass
-    requires { ⌜ Begins (now src) at to ⌝ }
-    ensures { λ r. ⌜ Lays (string least) (now (src .entry)) (now (dst .entry)) (now (dst .exit)) at to r ⌝ }
+    requires { ⌜ Begins (units (now src)) at to ⌝ }
+    ensures { λ r. ⌜ Lays (string least) (units (now (src .entry))) (now (dst .entry)) (now (dst .exit)) at to r ⌝ }
 {
     let counted = count(&*src, dst, at, to, least);
     let length = counted.value;

@@ -12,11 +12,11 @@ ghost use lib.ListN.{length};
 ghost use Rattle.drawing.specs.Limits.{lengthLimit};
 ghost use Rattle.ways.specs.Way.{sourceUnits, targetUnits};
 ghost use Rattle.ways.specs.TransformationLaws.{doublesAt, putDoubles};
-ghost use Rattle.from_file.specs.Way.{way};
+ghost use Rattle.from_file.specs.Way.{way, units};
 
 pub fn transformation_at(src: &[Unit], at: usize) -> [u64; 6]
-    requires { ⌜ (at + 6 * sourceUnits way 8 ≤ length (now src)) × (length (now src) ≤ lengthLimit) ⌝ }
-    ensures { λ r. ⌜ r ≡ doublesAt way 6 (now (src .entry)) at ⌝ }
+    requires { ⌜ (at + 6 * sourceUnits way 8 ≤ length (units (now src))) × (length (units (now src)) ≤ lengthLimit) ⌝ }
+    ensures { λ r. ⌜ r ≡ doublesAt way 6 (units (now (src .entry))) at ⌝ }
 {
     let units = source_units(8);
     let a = get(&*src, at, 8);

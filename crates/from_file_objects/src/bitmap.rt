@@ -13,10 +13,11 @@ ghost use Rattle.drawing.specs.Choices.{ifFlag};
 ghost use Rattle.drawing.specs.Text.{transformation};
 ghost use Rattle.drawing.specs.Bitmap as B;
 ghost use Rattle.from_file.specs.Lays.{Begins, Lays};
+ghost use Rattle.from_file.specs.Way.{units};
 
 fn bitmap_latex(src: &[Unit], dst: &mut [Kept], at: usize, to: usize) -> Pass
-    requires { ⌜ Begins (now src) at to ⌝ }
-    ensures { λ r. ⌜ Lays (ifFlag B.bitmapLatex) (now (src .entry)) (now (dst .entry)) (now (dst .exit)) at to r ⌝ }
+    requires { ⌜ Begins (units (now src)) at to ⌝ }
+    ensures { λ r. ⌜ Lays (ifFlag B.bitmapLatex) (units (now (src .entry))) (now (dst .entry)) (now (dst .exit)) at to r ⌝ }
 {
     let told = flag(&*src, dst, at, to);
     let behind = told.pass;
@@ -29,8 +30,8 @@ fn bitmap_latex(src: &[Unit], dst: &mut [Kept], at: usize, to: usize) -> Pass
 
 // Where the bitmap stands: no double is at fault.
 fn placed(src: &[Unit], dst: &mut [Kept], at: usize, to: usize) -> Pass
-    requires { ⌜ Begins (now src) at to ⌝ }
-    ensures { λ r. ⌜ Lays transformation (now (src .entry)) (now (dst .entry)) (now (dst .exit)) at to r ⌝ }
+    requires { ⌜ Begins (units (now src)) at to ⌝ }
+    ensures { λ r. ⌜ Lays transformation (units (now (src .entry))) (now (dst .entry)) (now (dst .exit)) at to r ⌝ }
 {
     if there(&*src, at, 48, 12) {
         if dst.len() == 0 {
@@ -44,8 +45,8 @@ fn placed(src: &[Unit], dst: &mut [Kept], at: usize, to: usize) -> Pass
 }
 
 pub fn bitmap(src: &[Unit], dst: &mut [Kept], at: usize, to: usize) -> Pass
-    requires { ⌜ Begins (now src) at to ⌝ }
-    ensures { λ r. ⌜ Lays B.bitmap (now (src .entry)) (now (dst .entry)) (now (dst .exit)) at to r ⌝ }
+    requires { ⌜ Begins (units (now src)) at to ⌝ }
+    ensures { λ r. ⌜ Lays B.bitmap (units (now (src .entry))) (now (dst .entry)) (now (dst .exit)) at to r ⌝ }
 {
     let named = string(&*src, dst, at, to, 1);
     let linked = bitmap_latex(&*src, dst, named.at, named.to);

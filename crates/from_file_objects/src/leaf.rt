@@ -17,6 +17,7 @@ ghost use lib.Dec.{eqb, leb};
 ghost use Rattle.format.specs.Alternative.{chosen};
 ghost use Rattle.drawing.specs.LeafLayout.{pathCase, otherCases, leafBody};
 ghost use Rattle.from_file.specs.Lays.{Begins, Lays};
+ghost use Rattle.from_file.specs.Way.{units};
 
 // from 1.5 on
 fn is_text_path(version: u32, letter: u64) -> bool
@@ -36,8 +37,8 @@ pub fn leaf_parts(
     version: u32,
     letter: u64,
 ) -> Pass
-    requires { ⌜ Begins (now src) at to ⌝ }
-    ensures { λ r. ⌜ Lays (chosen (pathCase version) (otherCases version) letter) (now (src .entry)) (now (dst .entry)) (now (dst .exit)) at to r ⌝ }
+    requires { ⌜ Begins (units (now src)) at to ⌝ }
+    ensures { λ r. ⌜ Lays (chosen (pathCase version) (otherCases version) letter) (units (now (src .entry))) (now (dst .entry)) (now (dst .exit)) at to r ⌝ }
 {
     if letter == TEXT {
         return text(&*src, dst, at, to, version);
@@ -59,8 +60,8 @@ pub fn leaf_body(
     version: u32,
     letter: u64,
 ) -> Pass
-    requires { ⌜ Begins (now src) at to ⌝ }
-    ensures { λ r. ⌜ Lays (leafBody version letter) (now (src .entry)) (now (dst .entry)) (now (dst .exit)) at to r ⌝ }
+    requires { ⌜ Begins (units (now src)) at to ⌝ }
+    ensures { λ r. ⌜ Lays (leafBody version letter) (units (now (src .entry))) (now (dst .entry)) (now (dst .exit)) at to r ⌝ }
 {
     let parts = leaf_parts(&*src, dst, at, to, version, letter);
     object_end(&*src, dst, parts.at, parts.to, version)

@@ -22,14 +22,14 @@ ghost use lib.ListN.{length};
 ghost use Rattle.drawing.specs.Limits.{lengthLimit};
 ghost use Rattle.ways.specs.Way.{sourceUnits, valueAt};
 ghost use Rattle.ways.specs.Segments.{segmentsOf, segmentThen, spelled, endBefore, before, Follows, Stands, Joins, MovedSegment, Ended};
-ghost use Rattle.from_file.specs.Way.{way};
+ghost use Rattle.from_file.specs.Way.{way, units};
 ghost use Rattle.from_file.specs.Lays.{Begins, Lays};
 
 // A letter and so many points. Into no memory they are one step.
 fn keep_segment(src: &[Unit], dst: &mut [Kept], at: usize, to: usize, points: usize) -> Pass
-    requires { ⌜ Begins (now src) at to ⌝ }
-    requires { ⌜ (at + sourceUnits way 2 + 2 * points * sourceUnits way 8 ≤ length (now src)) × (valueAt way 2 (now src) at < 256 ^ 2) ⌝ }
-    ensures { λ r. ⌜ MovedSegment way points (now (src .entry)) (now (dst .entry)) (now (dst .exit)) at to r ⌝ }
+    requires { ⌜ Begins (units (now src)) at to ⌝ }
+    requires { ⌜ (at + sourceUnits way 2 + 2 * points * sourceUnits way 8 ≤ length (units (now src))) × (valueAt way 2 (units (now src)) at < 256 ^ 2) ⌝ }
+    ensures { λ r. ⌜ MovedSegment way points (units (now (src .entry))) (now (dst .entry)) (now (dst .exit)) at to r ⌝ }
 {
     if dst.len() == 0 {
         return ahead(at, to, 2 + 16 * points, 1 + 4 * points);
@@ -40,9 +40,9 @@ fn keep_segment(src: &[Unit], dst: &mut [Kept], at: usize, to: usize, points: us
 
 // A curve without a start of its own, of which the letter is there.
 fn curve(src: &[Unit], dst: &mut [Kept], at: usize, to: usize) -> Pass
-    requires { ⌜ Begins (now src) at to ⌝ }
-    requires { ⌜ valueAt way 2 (now src) at ≡ 66 ⌝ }
-    ensures { λ r. ⌜ Ended (spelled 0) way (now (src .entry)) (now (dst .entry)) (now (dst .exit)) at to r ⌝ }
+    requires { ⌜ Begins (units (now src)) at to ⌝ }
+    requires { ⌜ valueAt way 2 (units (now src)) at ≡ 66 ⌝ }
+    ensures { λ r. ⌜ Ended (spelled 0) way (units (now (src .entry))) (now (dst .entry)) (now (dst .exit)) at to r ⌝ }
 {
     if there(&*src, at, 50, 13) {
         return keep_segment(&*src, dst, at, to, 3);
@@ -52,8 +52,8 @@ fn curve(src: &[Unit], dst: &mut [Kept], at: usize, to: usize) -> Pass
 
 // A segment without a start of its own, as from 1.3 on.
 fn segment(src: &[Unit], dst: &mut [Kept], at: usize, to: usize) -> Pass
-    requires { ⌜ Begins (now src) at to ⌝ }
-    ensures { λ r. ⌜ Ended (spelled 0) way (now (src .entry)) (now (dst .entry)) (now (dst .exit)) at to r ⌝ }
+    requires { ⌜ Begins (units (now src)) at to ⌝ }
+    ensures { λ r. ⌜ Ended (spelled 0) way (units (now (src .entry))) (now (dst .entry)) (now (dst .exit)) at to r ⌝ }
 {
     if there(&*src, at, 18, 5) {
         let letter = get(&*src, at, 2);
@@ -68,8 +68,8 @@ fn segment(src: &[Unit], dst: &mut [Kept], at: usize, to: usize) -> Pass
 }
 
 pub fn segments(src: &[Unit], dst: &mut [Kept], at: usize, to: usize, count: u64) -> Pass
-    requires { ⌜ Begins (now src) at to ⌝ }
-    ensures { λ r. ⌜ Lays (segmentsOf false count none) (now (src .entry)) (now (dst .entry)) (now (dst .exit)) at to r ⌝ }
+    requires { ⌜ Begins (units (now src)) at to ⌝ }
+    ensures { λ r. ⌜ Lays (segmentsOf false count none) (units (now (src .entry))) (now (dst .entry)) (now (dst .exit)) at to r ⌝ }
 {
     let mut behind = Pass { at: at, to: to };
     let mut left = count;
@@ -85,8 +85,8 @@ pub fn segments(src: &[Unit], dst: &mut [Kept], at: usize, to: usize, count: u64
 
 // The start behind the letter at this place has the very bits of the end before the letter.
 fn follows(src: &[Unit], at: usize) -> bool
-    requires { ⌜ (2 * sourceUnits way 8 ≤ at) × (at + sourceUnits way 2 + 2 * sourceUnits way 8 ≤ length (now src)) × (length (now src) ≤ lengthLimit) ⌝ }
-    ensures { λ r. ⌜ (r ≡ true → Stands way (now (src .entry)) (at + sourceUnits way 2) (endBefore way (now (src .entry)) at)) ⌝ }
+    requires { ⌜ (2 * sourceUnits way 8 ≤ at) × (at + sourceUnits way 2 + 2 * sourceUnits way 8 ≤ length (units (now src))) × (length (units (now src)) ≤ lengthLimit) ⌝ }
+    ensures { λ r. ⌜ (r ≡ true → Stands way (units (now (src .entry))) (at + sourceUnits way 2) (endBefore way (units (now (src .entry))) at)) ⌝ }
 {
     let units = source_units(8);
     let start = past(at, 2, 1);
@@ -98,9 +98,9 @@ fn follows(src: &[Unit], at: usize) -> bool
 
 // The first start is free.
 fn joins(src: &[Unit], at: usize, first: bool) -> bool
-    requires { ⌜ Follows way first (now src) at ⌝ }
-    requires { ⌜ (at + sourceUnits way 2 + 2 * sourceUnits way 8 ≤ length (now src)) × (length (now src) ≤ lengthLimit) ⌝ }
-    ensures { λ r. ⌜ (r ≡ true → Joins way first (now (src .entry)) at) ⌝ }
+    requires { ⌜ Follows way first (units (now src)) at ⌝ }
+    requires { ⌜ (at + sourceUnits way 2 + 2 * sourceUnits way 8 ≤ length (units (now src))) × (length (units (now src)) ≤ lengthLimit) ⌝ }
+    ensures { λ r. ⌜ (r ≡ true → Joins way first (units (now (src .entry))) at) ⌝ }
 {
     if first {
         return true;
@@ -109,9 +109,9 @@ fn joins(src: &[Unit], at: usize, first: bool) -> bool
 }
 
 fn each_with_start(src: &[Unit], dst: &mut [Kept], at: usize, to: usize, first: bool) -> Pass
-    requires { ⌜ Begins (now src) at to ⌝ }
-    requires { ⌜ Follows way first (now src) at ⌝ }
-    ensures { λ r. ⌜ Ended (segmentThen true (before way first (now (src .entry)) at)) way (now (src .entry)) (now (dst .entry)) (now (dst .exit)) at to r ⌝ }
+    requires { ⌜ Begins (units (now src)) at to ⌝ }
+    requires { ⌜ Follows way first (units (now src)) at ⌝ }
+    ensures { λ r. ⌜ Ended (segmentThen true (before way first (units (now (src .entry))) at)) way (units (now (src .entry))) (now (dst .entry)) (now (dst .exit)) at to r ⌝ }
 {
     if first {
         return each(&*src, dst, at, to, Group::Segment(2));
@@ -121,11 +121,11 @@ fn each_with_start(src: &[Unit], dst: &mut [Kept], at: usize, to: usize, first: 
 
 // A segment whose start is there, free or joined.
 fn whole_segment(src: &[Unit], dst: &mut [Kept], at: usize, to: usize, first: bool) -> Pass
-    requires { ⌜ Begins (now src) at to ⌝ }
-    requires { ⌜ Follows way first (now src) at ⌝ }
-    requires { ⌜ Joins way first (now src) at ⌝ }
-    requires { ⌜ at + sourceUnits way 2 + 4 * sourceUnits way 8 ≤ length (now src) ⌝ }
-    ensures { λ r. ⌜ Ended (segmentThen true (before way first (now (src .entry)) at)) way (now (src .entry)) (now (dst .entry)) (now (dst .exit)) at to r ⌝ }
+    requires { ⌜ Begins (units (now src)) at to ⌝ }
+    requires { ⌜ Follows way first (units (now src)) at ⌝ }
+    requires { ⌜ Joins way first (units (now src)) at ⌝ }
+    requires { ⌜ at + sourceUnits way 2 + 4 * sourceUnits way 8 ≤ length (units (now src)) ⌝ }
+    ensures { λ r. ⌜ Ended (segmentThen true (before way first (units (now (src .entry))) at)) way (units (now (src .entry))) (now (dst .entry)) (now (dst .exit)) at to r ⌝ }
 {
     let letter = get(&*src, at, 2);
     if is_straight(letter) {
@@ -141,9 +141,9 @@ fn whole_segment(src: &[Unit], dst: &mut [Kept], at: usize, to: usize, first: bo
 
 // A segment with a start of its own, as below 1.3.
 fn joined_segment(src: &[Unit], dst: &mut [Kept], at: usize, to: usize, first: bool) -> Pass
-    requires { ⌜ Begins (now src) at to ⌝ }
-    requires { ⌜ Follows way first (now src) at ⌝ }
-    ensures { λ r. ⌜ Ended (segmentThen true (before way first (now (src .entry)) at)) way (now (src .entry)) (now (dst .entry)) (now (dst .exit)) at to r ⌝ }
+    requires { ⌜ Begins (units (now src)) at to ⌝ }
+    requires { ⌜ Follows way first (units (now src)) at ⌝ }
+    ensures { λ r. ⌜ Ended (segmentThen true (before way first (units (now (src .entry))) at)) way (units (now (src .entry))) (now (dst .entry)) (now (dst .exit)) at to r ⌝ }
 {
     if there(&*src, at, 34, 9) {
         if joins(&*src, at, first) {
@@ -155,8 +155,8 @@ fn joined_segment(src: &[Unit], dst: &mut [Kept], at: usize, to: usize, first: b
 
 // The end before is not carried: it is the two doubles before the letter.
 pub fn joined_segments(src: &[Unit], dst: &mut [Kept], at: usize, to: usize, count: u64) -> Pass
-    requires { ⌜ Begins (now src) at to ⌝ }
-    ensures { λ r. ⌜ Lays (segmentsOf true count none) (now (src .entry)) (now (dst .entry)) (now (dst .exit)) at to r ⌝ }
+    requires { ⌜ Begins (units (now src)) at to ⌝ }
+    ensures { λ r. ⌜ Lays (segmentsOf true count none) (units (now (src .entry))) (now (dst .entry)) (now (dst .exit)) at to r ⌝ }
 {
     let mut behind = Pass { at: at, to: to };
     let mut first = true;

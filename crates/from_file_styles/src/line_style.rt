@@ -21,11 +21,12 @@ ghost use Rattle.drawing.specs.MarkerChain as M;
 ghost use Rattle.drawing.specs.LineStyle.{lineStyle};
 ghost use Rattle.ways.specs.LineStyleLaws.{dashes, join};
 ghost use Rattle.from_file.specs.Lays.{Begins, Lays};
+ghost use Rattle.from_file.specs.Way.{units};
 
 // Dashes and their offset are one run of floats.
 fn dashes(src: &[Unit], dst: &mut [Kept], at: usize, to: usize) -> Pass
-    requires { ⌜ Begins (now src) at to ⌝ }
-    ensures { λ r. ⌜ Lays dashes (now (src .entry)) (now (dst .entry)) (now (dst .exit)) at to r ⌝ }
+    requires { ⌜ Begins (units (now src)) at to ⌝ }
+    ensures { λ r. ⌜ Lays dashes (units (now (src .entry))) (now (dst .entry)) (now (dst .exit)) at to r ⌝ }
 {
     let counted = dash_count(&*src, dst, at, to);
     let count = counted.value;
@@ -38,8 +39,8 @@ fn dashes(src: &[Unit], dst: &mut [Kept], at: usize, to: usize) -> Pass
 
 // A join, and the limit of a mitre.
 fn join(src: &[Unit], dst: &mut [Kept], at: usize, to: usize) -> Pass
-    requires { ⌜ Begins (now src) at to ⌝ }
-    ensures { λ r. ⌜ Lays join (now (src .entry)) (now (dst .entry)) (now (dst .exit)) at to r ⌝ }
+    requires { ⌜ Begins (units (now src)) at to ⌝ }
+    ensures { λ r. ⌜ Lays join (units (now (src .entry))) (now (dst .entry)) (now (dst .exit)) at to r ⌝ }
 {
     let told = byte(&*src, dst, at, to, 0, LAST_JOIN);
     let behind = told.pass;
@@ -51,8 +52,8 @@ fn join(src: &[Unit], dst: &mut [Kept], at: usize, to: usize) -> Pass
 }
 
 fn mid_markers(src: &[Unit], dst: &mut [Kept], at: usize, to: usize, version: u32) -> Pass
-    requires { ⌜ Begins (now src) at to ⌝ }
-    ensures { λ r. ⌜ Lays (when (leb 1 version) (M.markers version) []) (now (src .entry)) (now (dst .entry)) (now (dst .exit)) at to r ⌝ }
+    requires { ⌜ Begins (units (now src)) at to ⌝ }
+    ensures { λ r. ⌜ Lays (when (leb 1 version) (M.markers version) []) (units (now (src .entry))) (now (dst .entry)) (now (dst .exit)) at to r ⌝ }
 {
     if version < V1_1 {
         return Pass { at: at, to: to };
@@ -62,8 +63,8 @@ fn mid_markers(src: &[Unit], dst: &mut [Kept], at: usize, to: usize, version: u3
 
 // What follows the join: the winding rule, and three chains of markers.
 fn winding_and_markers(src: &[Unit], dst: &mut [Kept], at: usize, to: usize, version: u32) -> Pass
-    requires { ⌜ Begins (now src) at to ⌝ }
-    ensures { λ r. ⌜ Lays (field (F.byteIn 0 1) & M.markers version & when (leb 1 version) (M.markers version) [] & M.markers version) (now (src .entry)) (now (dst .entry)) (now (dst .exit)) at to r ⌝ }
+    requires { ⌜ Begins (units (now src)) at to ⌝ }
+    ensures { λ r. ⌜ Lays (field (F.byteIn 0 1) & M.markers version & when (leb 1 version) (M.markers version) [] & M.markers version) (units (now (src .entry))) (now (dst .entry)) (now (dst .exit)) at to r ⌝ }
 {
     let winding = byte(&*src, dst, at, to, 0, LAST_WINDING);
     let wound = winding.pass;
@@ -73,8 +74,8 @@ fn winding_and_markers(src: &[Unit], dst: &mut [Kept], at: usize, to: usize, ver
 }
 
 pub fn line_style(src: &[Unit], dst: &mut [Kept], at: usize, to: usize, version: u32) -> Pass
-    requires { ⌜ Begins (now src) at to ⌝ }
-    ensures { λ r. ⌜ Lays (lineStyle version) (now (src .entry)) (now (dst .entry)) (now (dst .exit)) at to r ⌝ }
+    requires { ⌜ Begins (units (now src)) at to ⌝ }
+    ensures { λ r. ⌜ Lays (lineStyle version) (units (now (src .entry))) (now (dst .entry)) (now (dst .exit)) at to r ⌝ }
 {
     let wide = float(&*src, dst, at, to);
     let behind = wide.pass;

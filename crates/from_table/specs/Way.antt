@@ -1,103 +1,20 @@
 -- From a table's words to a file's bytes.
-use mathlib.Core.Path.{_≡_, refl}
-use mathlib.Core.Logic.{inr}
-use mathlib.Core.Bool.{true}
-use Prim.Native.Nat.{ℕ, suc, _+_, _*_, _/_, _^_, _<_, _≤_}
-use native.Mathlib.Nat as Nat
-use native.Mathlib.Omega.{arith}
+use Prim.Native.Nat.{ℕ}
 use mathlib.Core.List.{List}
-use lib.ListN.{length, getD}
-use mir.Syntax.{Width, w32}
+use lib.ListN.{getD}
+use mir.Syntax.{w32}
+use mir.Val.{Fits}
 use Rattle.format.specs.Digits.{Below}
-use Rattle.format.specs.LeafLaws.{field-below, field-one}
-use Rattle.drawing.specs.Codecs.{byteFields, wordFields}
-use Rattle.memory.specs.Sizes.{isRun}
-use Rattle.memory.specs.SizeLaws.{each-run}
-use Rattle.memory.specs.Runs.{SmallWords}
-use Rattle.ways.specs.Way.{Units, Blind, Way, codec, sourceUnits, valueAt}
-use Rattle.ways.specs.Runs.{AllSmall}
-
-abbrev words : Units
-words =
-    record {
-      base = 2 ^ 32;
-      pick = λ bytes words. words;
-      missing = 16;
-      meaningless = 16;
-      positive = omega arith;
-      least = λ n h. omega arith;
-      most = λ n h. omega arith;
-    }
-
-abbrev bytes : Units
-bytes =
-    record {
-      base = 256;
-      pick = λ bytes words. bytes;
-      missing = 2;
-      meaningless = 5;
-      positive = omega arith;
-      least = λ n h. h;
-      most = λ n h. h;
-    }
-
--- Everything that is wrong with a table is 16, at no place.
-pub blind : Blind (λ n. 16) (λ at. 0)
-blind = record { one-number = λ n n′. refl; one-place = λ at at′. refl }
+use Rattle.format.specs.LeafLaws.{known-below}
+use Rattle.ways.specs.Way.{Way}
+use Rattle.ways.specs.TableWay.{tableWay}
 
 abbrev pub way : Way
-way =
-    record {
-      source = words;
-      target = bytes;
-      number = λ n. 16;
-      place = λ at. 0;
-      before = λ at. omega arith;
-      some = omega arith;
-      tells = inr blind;
-    }
+way = tableWay
 
--- The source's units.
-abbrev pub unit : Width
-unit = w32
+-- The units that the source's memory holds: the words themselves.
+abbrev pub units : List ℕ → List ℕ
+units us = us
 
--- The codecs are those of the definitions.
-pub from-table : codec (way .source) ≡ wordFields
-from-table = refl
-
-pub to-file : codec (way .target) ≡ byteFields
-to-file = refl
-
--- ---- which words are values
-
--- A char is a word.
-pub char-at : (us : List ℕ) (at count i : ℕ) → at + count * sourceUnits way 2 ≤ length us → i < count → valueAt way 2 us (at + i * sourceUnits way 2) ≡ getD us (at + i) 0
-char-at us at count i inside less =
-    let one : at + i * 1 ≡ at + i = omega arith in
-    rw (one, field-one (2 ^ 32) us (at + i) (omega arith))
-
--- Words of floats and doubles write all their values, and nothing else.
-words-hold : (size : ℕ) → isRun size ≡ true → (size ≡ 2 → ⊥) → (2 ^ 32) ^ ((size + 3) / 4) ≡ 256 ^ size
-words-hold size run long = each-run (λ n. (n ≡ 2 → ⊥) → (2 ^ 32) ^ ((n + 3) / 4) ≡ 256 ^ n) size run (λ h. absurd (h refl)) (λ h. refl) (λ h. refl) long
-
-pub words-small : (size : ℕ) (us : List ℕ) (at count : ℕ) → isRun size ≡ true → (size ≡ 2 → ⊥) → Below (2 ^ 32) us → at + count * sourceUnits way size ≤ length us → AllSmall way size us at count
-words-small size us at count run long below inside i less =
-    let w = sourceUnits way size in
-    let more : suc i * w ≤ count * w = Nat.mul-le-mul-right w less in
-    rw (← words-hold size run long) (field-below (2 ^ 32) us (at + i * w) w (omega arith) below)
-
-pub chars-small : (size : ℕ) (us : List ℕ) (at count : ℕ) → at + count * sourceUnits way size ≤ length us → AllSmall way size us at count → SmallWords size us at count
-chars-small size us at count inside all two i less =
-    let there : at + count * sourceUnits way 2 ≤ length us = rw two at inside in
-    let small : valueAt way 2 us (at + i * sourceUnits way 2) < 256 ^ 2 = rw two at (all i less) in
-    rw (← char-at us at count i there less) small
-
-module _ (size : ℕ) (us : List ℕ) (at count : ℕ) (two : size ≡ 2) (inside : at + count * sourceUnits way size ≤ length us) where
-  pub chars-there : at + count * sourceUnits way 2 ≤ length us
-  chars-there = rw two at inside
-
-  pub small-chars : ((i : ℕ) → i < count → getD us (at + i) 0 < 65536) → AllSmall way size us at count
-  small-chars small i less = rw (two, char-at us at count i chars-there less) (small i less)
-
-  pub large-char : (i : ℕ) × (i < count) × (65536 ≤ getD us (at + i) 0) → (i : ℕ) × (i < count) × (256 ^ size ≤ valueAt way size us (at + i * sourceUnits way size))
-  large-char (i, less, large) = (i, less, rw (two, char-at us at count i chars-there less) large)
+pub units-below : (us : List ℕ) → ((i : ℕ) → Fits w32 (getD us i 0)) → Below (way .source .base) (units us)
+units-below us known = known-below w32 us known

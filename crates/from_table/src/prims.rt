@@ -10,7 +10,7 @@ use ways::REFUSED;
 ghost use mathlib.Core.Path.{_≡_};
 ghost use mathlib.Core.Bool.{true};
 ghost use Prim.Native.Nat.{_+_, _*_, _^_, _<_, _≤_};
-ghost use lib.ListN.{length};
+ghost use lib.ListN.{length, getD};
 ghost use Rattle.format.specs.Digits.{digits};
 ghost use Rattle.format.specs.Pass.{put};
 ghost use Rattle.drawing.specs.Limits.{lengthLimit};
@@ -19,28 +19,43 @@ ghost use Rattle.ways.specs.Way.{sourceUnits, targetUnits, valueAt};
 ghost use Rattle.ways.specs.Passes.{refusalOf, stepped, aheadOf};
 ghost use Rattle.ways.specs.Steps.{Fits, Small};
 ghost use Rattle.ways.specs.Runs.{AllSmall, HasWide, copied};
-ghost use Rattle.from_table.specs.Way.{way};
+ghost use Rattle.from_table.specs.Way.{way, units};
 
 pub type Unit = u32;
 
 pub type Kept = u8;
 
+// How many units the source has.
+pub fn source_length(src: &[Unit]) -> usize
+    ensures { λ r. ⌜ r ≡ length (units (now (src .entry))) ⌝ }
+{
+    src.len()
+}
+
 // So many words are there, which they never are behind a refusal.
 pub fn there(src: &[Unit], at: usize, bytes: usize, words: usize) -> bool
     requires { ⌜ at + way .source .pick bytes words < 2 ^ 60 ⌝ }
-    ensures { λ r. ⌜ Fits way bytes words (now (src .entry)) at r ⌝ }
+    ensures { λ r. ⌜ Fits way bytes words (units (now (src .entry))) at r ⌝ }
 {
     at + words <= src.len()
 }
 
 pub fn get(src: &[Unit], at: usize, size: usize) -> u64
-    requires { ⌜ (isField size ≡ true) × (at + sourceUnits way size ≤ length (now src)) ⌝ }
-    ensures { λ r. ⌜ (r ≡ valueAt way size (now (src .entry)) at) × (r < way .source .base ^ sourceUnits way size) ⌝ }
+    requires { ⌜ (isField size ≡ true) × (at + sourceUnits way size ≤ length (units (now src))) ⌝ }
+    ensures { λ r. ⌜ (r ≡ valueAt way size (units (now (src .entry))) at) × (r < way .source .base ^ sourceUnits way size) ⌝ }
 {
     if size <= 4 {
         return src[at] as u64;
     }
     from_halves(src[at], src[at + 1])
+}
+
+// The word at a place.
+pub fn word_in(src: &[Unit], at: usize) -> u32
+    requires { ⌜ at < length (units (now src)) ⌝ }
+    ensures { λ r. ⌜ r ≡ getD (units (now (src .entry))) at 0 ⌝ }
+{
+    src[at]
 }
 
 pub fn put(dst: &mut [Kept], to: usize, size: usize, value: u64)
@@ -90,8 +105,8 @@ pub fn refusal(number: u32, at: usize) -> Pass
 
 // So many fields, which are there, put one behind the other where they fit.
 pub fn copy(src: &[Unit], dst: &mut [Kept], at: usize, to: usize, size: usize, count: usize)
-    requires { ⌜ (isRun size ≡ true) × (at + count * sourceUnits way size ≤ length (now src)) × AllSmall way size (now src) at count ⌝ }
-    ensures { λ r. ⌜ now (dst .exit) ≡ copied way size count (now (src .entry)) at to (now (dst .entry)) ⌝ }
+    requires { ⌜ (isRun size ≡ true) × (at + count * sourceUnits way size ≤ length (units (now src))) × AllSmall way size (units (now src)) at count ⌝ }
+    ensures { λ r. ⌜ now (dst .exit) ≡ copied way size count (units (now (src .entry))) at to (now (dst .entry)) ⌝ }
 {
     if 0 < dst.len() {
         write_run(&*src, at, dst, to, size, count);
@@ -100,8 +115,8 @@ pub fn copy(src: &[Unit], dst: &mut [Kept], at: usize, to: usize, size: usize, c
 
 // The same for chars.
 pub fn copy_chars(src: &[Unit], dst: &mut [Kept], at: usize, to: usize, count: usize)
-    requires { ⌜ (at + count * sourceUnits way 2 ≤ length (now src)) × AllSmall way 2 (now src) at count ⌝ }
-    ensures { λ r. ⌜ now (dst .exit) ≡ copied way 2 count (now (src .entry)) at to (now (dst .entry)) ⌝ }
+    requires { ⌜ (at + count * sourceUnits way 2 ≤ length (units (now src))) × AllSmall way 2 (units (now src)) at count ⌝ }
+    ensures { λ r. ⌜ now (dst .exit) ≡ copied way 2 count (units (now (src .entry))) at to (now (dst .entry)) ⌝ }
 {
     if 0 < dst.len() {
         write_chars(&*src, at, dst, to, count);
@@ -110,8 +125,8 @@ pub fn copy_chars(src: &[Unit], dst: &mut [Kept], at: usize, to: usize, count: u
 
 // A unit that is no value of a field in a run: a word that is no char.
 pub fn has_wide(src: &[Unit], at: usize, size: usize, count: usize) -> bool
-    requires { ⌜ (isRun size ≡ true) × (at + count * sourceUnits way size ≤ length (now src)) × (length (now src) ≤ lengthLimit) ⌝ }
-    ensures { λ r. ⌜ HasWide way size (now (src .entry)) at count r ⌝ }
+    requires { ⌜ (isRun size ≡ true) × (at + count * sourceUnits way size ≤ length (units (now src))) × (length (units (now src)) ≤ lengthLimit) ⌝ }
+    ensures { λ r. ⌜ HasWide way size (units (now (src .entry))) at count r ⌝ }
 {
     if size == 2 {
         if all_chars(&*src, at, count) {

@@ -17,12 +17,12 @@ ghost use Prim.Native.Nat.{_+_, _^_, _<_, _≤_};
 ghost use Rattle.drawing.specs.LeafLayout.{objectEnd};
 ghost use Rattle.ways.specs.Way.{sourceUnits};
 ghost use Rattle.ways.specs.EndLaws.{ZeroAt};
-ghost use Rattle.from_table.specs.Way.{way};
+ghost use Rattle.from_table.specs.Way.{way, units};
 ghost use Rattle.from_table.specs.Lays.{Begins, Lays};
 
 pub fn object_end(src: &[Unit], dst: &mut [Kept], at: usize, to: usize, version: u32) -> Pass
-    requires { ⌜ Begins (now src) at to ⌝ }
-    ensures { λ r. ⌜ Lays (objectEnd version) (now (src .entry)) (now (dst .entry)) (now (dst .exit)) at to r ⌝ }
+    requires { ⌜ Begins (units (now src)) at to ⌝ }
+    ensures { λ r. ⌜ Lays (objectEnd version) (units (now (src .entry))) (now (dst .entry)) (now (dst .exit)) at to r ⌝ }
 {
     let flow = flow_flag(&*src, dst, at, to);
     let behind = flow.pass;
@@ -35,7 +35,7 @@ pub fn object_end(src: &[Unit], dst: &mut [Kept], at: usize, to: usize, version:
 // The flag is there, and 0.
 fn flow_is_plain(src: &[Unit], at: usize) -> bool
     requires { ⌜ at < 2 ^ 40 ⌝ }
-    ensures { λ r. ⌜ (r ≡ true → ZeroAt way 1 (now (src .entry)) at) ⌝ }
+    ensures { λ r. ⌜ (r ≡ true → ZeroAt way 1 (units (now (src .entry))) at) ⌝ }
 {
     if there(&*src, at, 1, 1) {
         return get(&*src, at, 1) == 0;
@@ -46,7 +46,7 @@ fn flow_is_plain(src: &[Unit], at: usize) -> bool
 // The flag and the description's length are there, and 0.
 fn end_is_plain(src: &[Unit], at: usize) -> bool
     requires { ⌜ at < 2 ^ 40 ⌝ }
-    ensures { λ r. ⌜ (r ≡ true → ZeroAt way 1 (now (src .entry)) at × ZeroAt way 4 (now (src .entry)) (at + sourceUnits way 1)) ⌝ }
+    ensures { λ r. ⌜ (r ≡ true → ZeroAt way 1 (units (now (src .entry))) at × ZeroAt way 4 (units (now (src .entry))) (at + sourceUnits way 1)) ⌝ }
 {
     if there(&*src, at, 5, 2) {
         if get(&*src, at, 1) != 0 {
@@ -58,9 +58,9 @@ fn end_is_plain(src: &[Unit], at: usize) -> bool
 }
 
 fn older_end(src: &[Unit], dst: &mut [Kept], at: usize, to: usize, version: u32) -> Pass
-    requires { ⌜ Begins (now src) at to ⌝ }
+    requires { ⌜ Begins (units (now src)) at to ⌝ }
     requires { ⌜ version < 2 ⌝ }
-    ensures { λ r. ⌜ Lays (objectEnd version) (now (src .entry)) (now (dst .entry)) (now (dst .exit)) at to r ⌝ }
+    ensures { λ r. ⌜ Lays (objectEnd version) (units (now (src .entry))) (now (dst .entry)) (now (dst .exit)) at to r ⌝ }
 {
     if flow_is_plain(&*src, at) {
         return keep(&*src, dst, at, to, 1);
@@ -69,9 +69,9 @@ fn older_end(src: &[Unit], dst: &mut [Kept], at: usize, to: usize, version: u32)
 }
 
 fn newer_end(src: &[Unit], dst: &mut [Kept], at: usize, to: usize, version: u32) -> Pass
-    requires { ⌜ Begins (now src) at to ⌝ }
+    requires { ⌜ Begins (units (now src)) at to ⌝ }
     requires { ⌜ 2 ≤ version ⌝ }
-    ensures { λ r. ⌜ Lays (objectEnd version) (now (src .entry)) (now (dst .entry)) (now (dst .exit)) at to r ⌝ }
+    ensures { λ r. ⌜ Lays (objectEnd version) (units (now (src .entry))) (now (dst .entry)) (now (dst .exit)) at to r ⌝ }
 {
     if end_is_plain(&*src, at) {
         if dst.len() == 0 {
@@ -85,8 +85,8 @@ fn newer_end(src: &[Unit], dst: &mut [Kept], at: usize, to: usize, version: u32)
 
 // The same of a group: most have no description, and then flag and length are a group of fields.
 pub fn group_end(src: &[Unit], dst: &mut [Kept], at: usize, to: usize, version: u32) -> Pass
-    requires { ⌜ Begins (now src) at to ⌝ }
-    ensures { λ r. ⌜ Lays (objectEnd version) (now (src .entry)) (now (dst .entry)) (now (dst .exit)) at to r ⌝ }
+    requires { ⌜ Begins (units (now src)) at to ⌝ }
+    ensures { λ r. ⌜ Lays (objectEnd version) (units (now (src .entry))) (now (dst .entry)) (now (dst .exit)) at to r ⌝ }
 {
     if version < V1_2 {
         return older_end(&*src, dst, at, to, version);

@@ -14,11 +14,12 @@ use from_table_styles::paint::paint;
 use ways::Pass;
 ghost use Rattle.drawing.specs.Path as P;
 ghost use Rattle.from_table.specs.Lays.{Begins, Lays};
+ghost use Rattle.from_table.specs.Way.{units};
 
 // A count, the start from 1.3 on, and as many segments.
 fn counted_segments(src: &[Unit], dst: &mut [Kept], at: usize, to: usize, version: u32) -> Pass
-    requires { ⌜ Begins (now src) at to ⌝ }
-    ensures { λ r. ⌜ Lays (P.countedSegments version) (now (src .entry)) (now (dst .entry)) (now (dst .exit)) at to r ⌝ }
+    requires { ⌜ Begins (units (now src)) at to ⌝ }
+    ensures { λ r. ⌜ Lays (P.countedSegments version) (units (now (src .entry))) (now (dst .entry)) (now (dst .exit)) at to r ⌝ }
 {
     let told = count(&*src, dst, at, to, LEAST_SEGMENTS);
     let number = told.value;
@@ -31,8 +32,8 @@ fn counted_segments(src: &[Unit], dst: &mut [Kept], at: usize, to: usize, versio
 }
 
 pub fn outline(src: &[Unit], dst: &mut [Kept], at: usize, to: usize, version: u32) -> Pass
-    requires { ⌜ Begins (now src) at to ⌝ }
-    ensures { λ r. ⌜ Lays (P.outline version) (now (src .entry)) (now (dst .entry)) (now (dst .exit)) at to r ⌝ }
+    requires { ⌜ Begins (units (now src)) at to ⌝ }
+    ensures { λ r. ⌜ Lays (P.outline version) (units (now (src .entry))) (now (dst .entry)) (now (dst .exit)) at to r ⌝ }
 {
     let told = closed_letter(&*src, dst, at, to);
     let behind = told.pass;
@@ -40,8 +41,8 @@ pub fn outline(src: &[Unit], dst: &mut [Kept], at: usize, to: usize, version: u3
 }
 
 pub fn path(src: &[Unit], dst: &mut [Kept], at: usize, to: usize, version: u32) -> Pass
-    requires { ⌜ Begins (now src) at to ⌝ }
-    ensures { λ r. ⌜ Lays (P.path version) (now (src .entry)) (now (dst .entry)) (now (dst .exit)) at to r ⌝ }
+    requires { ⌜ Begins (units (now src)) at to ⌝ }
+    ensures { λ r. ⌜ Lays (P.path version) (units (now (src .entry))) (now (dst .entry)) (now (dst .exit)) at to r ⌝ }
 {
     let lined = paint(&*src, dst, at, to, version);
     let filled = paint(&*src, dst, lined.at, lined.to, version);

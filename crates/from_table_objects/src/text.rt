@@ -34,13 +34,13 @@ ghost use Rattle.drawing.specs.Choices.{ifFlag};
 ghost use Rattle.drawing.specs.Text as T;
 ghost use Rattle.ways.specs.TextLaws as X;
 ghost use Rattle.ways.specs.TextLaws.{FaceGood};
-ghost use Rattle.from_table.specs.Way.{way};
+ghost use Rattle.from_table.specs.Way.{way, units};
 ghost use Rattle.from_table.specs.Lays.{Begins, Lays};
 
 // None of these values is at fault.
 fn face_good(src: &[Unit], at: usize) -> bool
-    requires { ⌜ (at + way .source .pick 54 15 ≤ length (now src)) × (length (now src) ≤ lengthLimit) ⌝ }
-    ensures { λ r. ⌜ (r ≡ true → FaceGood way (now (src .entry)) at) ⌝ }
+    requires { ⌜ (at + way .source .pick 54 15 ≤ length (units (now src))) × (length (units (now src)) ≤ lengthLimit) ⌝ }
+    ensures { λ r. ⌜ (r ≡ true → FaceGood way (units (now (src .entry))) at) ⌝ }
 {
     let shape = get(&*src, at, 1);
     let series = get(&*src, past(at, 1, 1), 1);
@@ -55,9 +55,9 @@ fn face_good(src: &[Unit], at: usize) -> bool
 }
 
 fn keep_face(src: &[Unit], dst: &mut [Kept], at: usize, to: usize) -> Pass
-    requires { ⌜ Begins (now src) at to ⌝ }
-    requires { ⌜ (at + way .source .pick 54 15 ≤ length (now src)) × FaceGood way (now src) at ⌝ }
-    ensures { λ r. ⌜ Lays X.face (now (src .entry)) (now (dst .entry)) (now (dst .exit)) at to r ⌝ }
+    requires { ⌜ Begins (units (now src)) at to ⌝ }
+    requires { ⌜ (at + way .source .pick 54 15 ≤ length (units (now src))) × FaceGood way (units (now src)) at ⌝ }
+    ensures { λ r. ⌜ Lays X.face (units (now (src .entry))) (now (dst .entry)) (now (dst .exit)) at to r ⌝ }
 {
     let shape = keep(&*src, dst, at, to, 1);
     let series = keep(&*src, dst, shape.at, shape.to, 1);
@@ -68,8 +68,8 @@ fn keep_face(src: &[Unit], dst: &mut [Kept], at: usize, to: usize) -> Pass
 }
 
 fn face(src: &[Unit], dst: &mut [Kept], at: usize, to: usize) -> Pass
-    requires { ⌜ Begins (now src) at to ⌝ }
-    ensures { λ r. ⌜ Lays X.face (now (src .entry)) (now (dst .entry)) (now (dst .exit)) at to r ⌝ }
+    requires { ⌜ Begins (units (now src)) at to ⌝ }
+    ensures { λ r. ⌜ Lays X.face (units (now (src .entry))) (now (dst .entry)) (now (dst .exit)) at to r ⌝ }
 {
     if there(&*src, at, 54, 15) {
         if face_good(&*src, at) {
@@ -83,8 +83,8 @@ fn face(src: &[Unit], dst: &mut [Kept], at: usize, to: usize) -> Pass
 }
 
 pub fn font(src: &[Unit], dst: &mut [Kept], at: usize, to: usize) -> Pass
-    requires { ⌜ Begins (now src) at to ⌝ }
-    ensures { λ r. ⌜ Lays T.font (now (src .entry)) (now (dst .entry)) (now (dst .exit)) at to r ⌝ }
+    requires { ⌜ Begins (units (now src)) at to ⌝ }
+    ensures { λ r. ⌜ Lays T.font (units (now (src .entry))) (now (dst .entry)) (now (dst .exit)) at to r ⌝ }
 {
     let family = string(&*src, dst, at, to, 0);
     face(&*src, dst, family.at, family.to)
@@ -92,8 +92,8 @@ pub fn font(src: &[Unit], dst: &mut [Kept], at: usize, to: usize) -> Pass
 
 // The LaTeX fields before the alternative.
 pub fn before_alternative(src: &[Unit], dst: &mut [Kept], at: usize, to: usize) -> Pass
-    requires { ⌜ Begins (now src) at to ⌝ }
-    ensures { λ r. ⌜ Lays (S.string 0 & S.string 0 & S.string 0 & S.string 0 & field (byteIn 0 2) & field (byteIn 0 3)) (now (src .entry)) (now (dst .entry)) (now (dst .exit)) at to r ⌝ }
+    requires { ⌜ Begins (units (now src)) at to ⌝ }
+    ensures { λ r. ⌜ Lays (S.string 0 & S.string 0 & S.string 0 & S.string 0 & field (byteIn 0 2) & field (byteIn 0 3)) (units (now (src .entry))) (now (dst .entry)) (now (dst .exit)) at to r ⌝ }
 {
     let family = string(&*src, dst, at, to, 0);
     let series = string(&*src, dst, family.at, family.to, 0);
@@ -106,16 +106,16 @@ pub fn before_alternative(src: &[Unit], dst: &mut [Kept], at: usize, to: usize) 
 }
 
 fn latex(src: &[Unit], dst: &mut [Kept], at: usize, to: usize) -> Pass
-    requires { ⌜ Begins (now src) at to ⌝ }
-    ensures { λ r. ⌜ Lays T.latex (now (src .entry)) (now (dst .entry)) (now (dst .exit)) at to r ⌝ }
+    requires { ⌜ Begins (units (now src)) at to ⌝ }
+    ensures { λ r. ⌜ Lays T.latex (units (now (src .entry))) (now (dst .entry)) (now (dst .exit)) at to r ⌝ }
 {
     let before = before_alternative(&*src, dst, at, to);
     string(&*src, dst, before.at, before.to, 0)
 }
 
 pub fn latex_if(src: &[Unit], dst: &mut [Kept], at: usize, to: usize) -> Pass
-    requires { ⌜ Begins (now src) at to ⌝ }
-    ensures { λ r. ⌜ Lays (ifFlag T.latex) (now (src .entry)) (now (dst .entry)) (now (dst .exit)) at to r ⌝ }
+    requires { ⌜ Begins (units (now src)) at to ⌝ }
+    ensures { λ r. ⌜ Lays (ifFlag T.latex) (units (now (src .entry))) (now (dst .entry)) (now (dst .exit)) at to r ⌝ }
 {
     let told = flag(&*src, dst, at, to);
     let behind = told.pass;
@@ -126,16 +126,16 @@ pub fn latex_if(src: &[Unit], dst: &mut [Kept], at: usize, to: usize) -> Pass
 }
 
 pub fn text_style(src: &[Unit], dst: &mut [Kept], at: usize, to: usize) -> Pass
-    requires { ⌜ Begins (now src) at to ⌝ }
-    ensures { λ r. ⌜ Lays T.textStyle (now (src .entry)) (now (dst .entry)) (now (dst .exit)) at to r ⌝ }
+    requires { ⌜ Begins (units (now src)) at to ⌝ }
+    ensures { λ r. ⌜ Lays T.textStyle (units (now (src .entry))) (now (dst .entry)) (now (dst .exit)) at to r ⌝ }
 {
     let set = font(&*src, dst, at, to);
     latex_if(&*src, dst, set.at, set.to)
 }
 
 pub fn text(src: &[Unit], dst: &mut [Kept], at: usize, to: usize, version: u32) -> Pass
-    requires { ⌜ Begins (now src) at to ⌝ }
-    ensures { λ r. ⌜ Lays (T.text version) (now (src .entry)) (now (dst .entry)) (now (dst .exit)) at to r ⌝ }
+    requires { ⌜ Begins (units (now src)) at to ⌝ }
+    ensures { λ r. ⌜ Lays (T.text version) (units (now (src .entry))) (now (dst .entry)) (now (dst .exit)) at to r ⌝ }
 {
     let styled = text_style(&*src, dst, at, to);
     let painted = paint(&*src, dst, styled.at, styled.to, version);

@@ -9,10 +9,11 @@ use from_table_styles::paint::paint;
 use ways::Pass;
 ghost use Rattle.drawing.specs.TextPath as T;
 ghost use Rattle.from_table.specs.Lays.{Begins, Lays};
+ghost use Rattle.from_table.specs.Way.{units};
 
 pub fn text_path(src: &[Unit], dst: &mut [Kept], at: usize, to: usize, version: u32) -> Pass
-    requires { ⌜ Begins (now src) at to ⌝ }
-    ensures { λ r. ⌜ Lays (T.textPath version) (now (src .entry)) (now (dst .entry)) (now (dst .exit)) at to r ⌝ }
+    requires { ⌜ Begins (units (now src)) at to ⌝ }
+    ensures { λ r. ⌜ Lays (T.textPath version) (units (now (src .entry))) (now (dst .entry)) (now (dst .exit)) at to r ⌝ }
 {
     let painted = paint(&*src, dst, at, to, version);
     let styled = text_style(&*src, dst, painted.at, painted.to);

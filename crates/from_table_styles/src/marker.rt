@@ -24,11 +24,12 @@ ghost use Rattle.drawing.specs.Marker.{lastMarker, arrow, marker};
 ghost use Rattle.drawing.specs.MarkerChain as M;
 ghost use Rattle.ways.specs.MarkerLaws.{flaggedFloat, markerHead, overlay};
 ghost use Rattle.from_table.specs.Lays.{Begins, Lays};
+ghost use Rattle.from_table.specs.Way.{units};
 
 // A flag, and a float where the flag has this value.
 fn flagged_float(src: &[Unit], dst: &mut [Kept], at: usize, to: usize, value: u64) -> Pass
-    requires { ⌜ Begins (now src) at to ⌝ }
-    ensures { λ r. ⌜ Lays (flaggedFloat value) (now (src .entry)) (now (dst .entry)) (now (dst .exit)) at to r ⌝ }
+    requires { ⌜ Begins (units (now src)) at to ⌝ }
+    ensures { λ r. ⌜ Lays (flaggedFloat value) (units (now (src .entry))) (now (dst .entry)) (now (dst .exit)) at to r ⌝ }
 {
     let told = flag(&*src, dst, at, to);
     let behind = told.pass;
@@ -41,8 +42,8 @@ fn flagged_float(src: &[Unit], dst: &mut [Kept], at: usize, to: usize, value: u6
 
 // The overlay flag, and from 1.4 on the offsets of a marker that is none.
 fn overlay(src: &[Unit], dst: &mut [Kept], at: usize, to: usize, version: u32) -> Pass
-    requires { ⌜ Begins (now src) at to ⌝ }
-    ensures { λ r. ⌜ Lays (overlay version) (now (src .entry)) (now (dst .entry)) (now (dst .exit)) at to r ⌝ }
+    requires { ⌜ Begins (units (now src)) at to ⌝ }
+    ensures { λ r. ⌜ Lays (overlay version) (units (now (src .entry))) (now (dst .entry)) (now (dst .exit)) at to r ⌝ }
 {
     let told = flag(&*src, dst, at, to);
     let behind = told.pass;
@@ -58,8 +59,8 @@ fn overlay(src: &[Unit], dst: &mut [Kept], at: usize, to: usize, version: u32) -
 
 // Size, repeats and whether it is reversed.
 fn marker_head(src: &[Unit], dst: &mut [Kept], at: usize, to: usize) -> Pass
-    requires { ⌜ Begins (now src) at to ⌝ }
-    ensures { λ r. ⌜ Lays markerHead (now (src .entry)) (now (dst .entry)) (now (dst .exit)) at to r ⌝ }
+    requires { ⌜ Begins (units (now src)) at to ⌝ }
+    ensures { λ r. ⌜ Lays markerHead (units (now (src .entry))) (now (dst .entry)) (now (dst .exit)) at to r ⌝ }
 {
     let size = float(&*src, dst, at, to);
     let sized = size.pass;
@@ -71,8 +72,8 @@ fn marker_head(src: &[Unit], dst: &mut [Kept], at: usize, to: usize) -> Pass
 
 // What follows a marker's id from 1.1 on; it is the same for every id.
 fn marker(src: &[Unit], dst: &mut [Kept], at: usize, to: usize, version: u32) -> Pass
-    requires { ⌜ Begins (now src) at to ⌝ }
-    ensures { λ r. ⌜ Lays (marker version 0) (now (src .entry)) (now (dst .entry)) (now (dst .exit)) at to r ⌝ }
+    requires { ⌜ Begins (units (now src)) at to ⌝ }
+    ensures { λ r. ⌜ Lays (marker version 0) (units (now (src .entry))) (now (dst .entry)) (now (dst .exit)) at to r ⌝ }
 {
     let turned = marker_head(&*src, dst, at, to);
     let oriented = flagged_float(&*src, dst, turned.at, turned.to, 0);
@@ -82,8 +83,8 @@ fn marker(src: &[Unit], dst: &mut [Kept], at: usize, to: usize, version: u32) ->
 
 // The same in 1.0.
 fn arrow(src: &[Unit], dst: &mut [Kept], at: usize, to: usize) -> Pass
-    requires { ⌜ Begins (now src) at to ⌝ }
-    ensures { λ r. ⌜ Lays (arrow 0) (now (src .entry)) (now (dst .entry)) (now (dst .exit)) at to r ⌝ }
+    requires { ⌜ Begins (units (now src)) at to ⌝ }
+    ensures { λ r. ⌜ Lays (arrow 0) (units (now (src .entry))) (now (dst .entry)) (now (dst .exit)) at to r ⌝ }
 {
     let size = float(&*src, dst, at, to);
     let sized = size.pass;
@@ -108,8 +109,8 @@ fn last_marker(version: u32) -> u32
 
 // Most lines have no markers.
 pub fn markers(src: &[Unit], dst: &mut [Kept], at: usize, to: usize, version: u32) -> Pass
-    requires { ⌜ Begins (now src) at to ⌝ }
-    ensures { λ r. ⌜ Lays (M.markers version) (now (src .entry)) (now (dst .entry)) (now (dst .exit)) at to r ⌝ }
+    requires { ⌜ Begins (units (now src)) at to ⌝ }
+    ensures { λ r. ⌜ Lays (M.markers version) (units (now (src .entry))) (now (dst .entry)) (now (dst .exit)) at to r ⌝ }
 {
     if there(&*src, at, 1, 1) {
         if get(&*src, at, 1) == 0 {
@@ -121,8 +122,8 @@ pub fn markers(src: &[Unit], dst: &mut [Kept], at: usize, to: usize, version: u3
 
 // A marker's data end with another marker, from 1.1 on; an id of 0 ends the chain, and so does the limit.
 pub fn chain(src: &[Unit], dst: &mut [Kept], at: usize, to: usize, version: u32) -> Pass
-    requires { ⌜ Begins (now src) at to ⌝ }
-    ensures { λ r. ⌜ Lays (M.markers version) (now (src .entry)) (now (dst .entry)) (now (dst .exit)) at to r ⌝ }
+    requires { ⌜ Begins (units (now src)) at to ⌝ }
+    ensures { λ r. ⌜ Lays (M.markers version) (units (now (src .entry))) (now (dst .entry)) (now (dst .exit)) at to r ⌝ }
 {
     let high = last_marker(version);
     let mut behind = Pass { at: at, to: to };

@@ -47,13 +47,13 @@ ghost use Rattle.ways.specs.Way.{sourceUnits, valueAt};
 ghost use Rattle.ways.specs.Moves.{AllAllowed, Led};
 ghost use Rattle.ways.specs.NowhereLaws.{Moves};
 ghost use Rattle.ways.specs.PaintLaws.{PlainLed, gradientParts};
-ghost use Rattle.from_table.specs.Way.{way};
+ghost use Rattle.from_table.specs.Way.{way, units};
 ghost use Rattle.from_table.specs.Lays.{Begins, Lays};
 
 // All of these components are in their range.
 fn all_components(src: &[Unit], from: usize, count: usize) -> bool
-    requires { ⌜ (from + count * sourceUnits way 4 ≤ length (now src)) × (length (now src) ≤ lengthLimit) ⌝ }
-    ensures { λ r. ⌜ (r ≡ true → AllAllowed way F.component 4 count (now (src .entry)) from) ⌝ }
+    requires { ⌜ (from + count * sourceUnits way 4 ≤ length (units (now src))) × (length (units (now src)) ≤ lengthLimit) ⌝ }
+    ensures { λ r. ⌜ (r ≡ true → AllAllowed way F.component 4 count (units (now (src .entry))) from) ⌝ }
 {
     let mut i = 0;
     while i < count {
@@ -68,9 +68,9 @@ fn all_components(src: &[Unit], from: usize, count: usize) -> bool
 
 // A letter and so many words behind it, known to be there and allowed. Into no memory they are one step.
 fn keep_color(src: &[Unit], dst: &mut [Kept], at: usize, to: usize, count: usize) -> Pass
-    requires { ⌜ Begins (now src) at to ⌝ }
-    requires { ⌜ (at + sourceUnits way 2 + count * sourceUnits way 4 ≤ length (now src)) × (valueAt way 2 (now src) at < 256 ^ 2) ⌝ }
-    ensures { λ r. ⌜ Moves way ((2, 1) ∷ (4, count) ∷ []) (now (src .entry)) (now (dst .entry)) (now (dst .exit)) at to r ⌝ }
+    requires { ⌜ Begins (units (now src)) at to ⌝ }
+    requires { ⌜ (at + sourceUnits way 2 + count * sourceUnits way 4 ≤ length (units (now src))) × (valueAt way 2 (units (now src)) at < 256 ^ 2) ⌝ }
+    ensures { λ r. ⌜ Moves way ((2, 1) ∷ (4, count) ∷ []) (units (now (src .entry))) (now (dst .entry)) (now (dst .exit)) at to r ⌝ }
 {
     if dst.len() == 0 {
         return ahead(at, to, 2 + 4 * count, 1 + count);
@@ -81,9 +81,9 @@ fn keep_color(src: &[Unit], dst: &mut [Kept], at: usize, to: usize, count: usize
 
 // A letter that is allowed, and so many components.
 fn color(src: &[Unit], dst: &mut [Kept], at: usize, to: usize, count: usize) -> Pass
-    requires { ⌜ Begins (now src) at to ⌝ }
-    requires { ⌜ (count ≤ 5) × (at + sourceUnits way 2 ≤ length (now src)) × (valueAt way 2 (now src) at < 256 ^ 2) ⌝ }
-    ensures { λ r. ⌜ Led way (repeat count (field F.component) .format) (now (src .entry)) (now (dst .entry)) (now (dst .exit)) at to r ⌝ }
+    requires { ⌜ Begins (units (now src)) at to ⌝ }
+    requires { ⌜ (count ≤ 5) × (at + sourceUnits way 2 ≤ length (units (now src))) × (valueAt way 2 (units (now src)) at < 256 ^ 2) ⌝ }
+    ensures { λ r. ⌜ Led way (repeat count (field F.component) .format) (units (now (src .entry))) (now (dst .entry)) (now (dst .exit)) at to r ⌝ }
 {
     if there(&*src, at, 2 + 4 * count, 1 + count) {
         if all_components(&*src, past(at, 2, 1), count) {
@@ -95,8 +95,8 @@ fn color(src: &[Unit], dst: &mut [Kept], at: usize, to: usize, count: usize) -> 
 
 // A hue and three components in their ranges, behind the letter at this place.
 fn hsb_good(src: &[Unit], at: usize) -> bool
-    requires { ⌜ (at + sourceUnits way 2 + 4 * sourceUnits way 4 ≤ length (now src)) × (length (now src) ≤ lengthLimit) ⌝ }
-    ensures { λ r. ⌜ (r ≡ true → Allowed F.hue (valueAt way 4 (now (src .entry)) (at + sourceUnits way 2)) × AllAllowed way F.component 4 3 (now (src .entry)) (at + sourceUnits way 2 + sourceUnits way 4)) ⌝ }
+    requires { ⌜ (at + sourceUnits way 2 + 4 * sourceUnits way 4 ≤ length (units (now src))) × (length (units (now src)) ≤ lengthLimit) ⌝ }
+    ensures { λ r. ⌜ (r ≡ true → Allowed F.hue (valueAt way 4 (units (now (src .entry))) (at + sourceUnits way 2)) × AllAllowed way F.component 4 3 (units (now (src .entry))) (at + sourceUnits way 2 + sourceUnits way 4)) ⌝ }
 {
     if is_hue(get(&*src, past(at, 2, 1), 4)) {
         return all_components(&*src, past(at, 6, 2), 3);
@@ -106,9 +106,9 @@ fn hsb_good(src: &[Unit], at: usize) -> bool
 
 // The first component is a hue.
 fn hsb(src: &[Unit], dst: &mut [Kept], at: usize, to: usize) -> Pass
-    requires { ⌜ Begins (now src) at to ⌝ }
-    requires { ⌜ (at + sourceUnits way 2 ≤ length (now src)) × (valueAt way 2 (now src) at < 256 ^ 2) ⌝ }
-    ensures { λ r. ⌜ Led way ((field F.hue & repeat 3 (field F.component)) .format) (now (src .entry)) (now (dst .entry)) (now (dst .exit)) at to r ⌝ }
+    requires { ⌜ Begins (units (now src)) at to ⌝ }
+    requires { ⌜ (at + sourceUnits way 2 ≤ length (units (now src))) × (valueAt way 2 (units (now src)) at < 256 ^ 2) ⌝ }
+    ensures { λ r. ⌜ Led way ((field F.hue & repeat 3 (field F.component)) .format) (units (now (src .entry))) (now (dst .entry)) (now (dst .exit)) at to r ⌝ }
 {
     if there(&*src, at, 18, 5) {
         if hsb_good(&*src, at) {
@@ -120,9 +120,9 @@ fn hsb(src: &[Unit], dst: &mut [Kept], at: usize, to: usize) -> Pass
 
 // From 1.4 on.
 fn newer(src: &[Unit], dst: &mut [Kept], at: usize, to: usize, version: u32, letter: u64) -> Pass
-    requires { ⌜ Begins (now src) at to ⌝ }
-    requires { ⌜ (at + sourceUnits way 2 ≤ length (now src)) × (letter ≡ valueAt way 2 (now src) at) × (4 ≤ version) × (letter ≡ 84 → ⊥) × (letter ≡ 82 → ⊥) × (letter ≡ 67 → ⊥) ⌝ }
-    ensures { λ r. ⌜ PlainLed way version (now (src .entry)) (now (dst .entry)) (now (dst .exit)) at to r ⌝ }
+    requires { ⌜ Begins (units (now src)) at to ⌝ }
+    requires { ⌜ (at + sourceUnits way 2 ≤ length (units (now src))) × (letter ≡ valueAt way 2 (units (now src)) at) × (4 ≤ version) × (letter ≡ 84 → ⊥) × (letter ≡ 82 → ⊥) × (letter ≡ 67 → ⊥) ⌝ }
+    ensures { λ r. ⌜ PlainLed way version (units (now (src .entry))) (now (dst .entry)) (now (dst .exit)) at to r ⌝ }
 {
     if letter == GREY {
         return color(&*src, dst, at, to, 2);
@@ -135,9 +135,9 @@ fn newer(src: &[Unit], dst: &mut [Kept], at: usize, to: usize, version: u32, let
 
 // A plain paint, of which the letter is there.
 fn plain(src: &[Unit], dst: &mut [Kept], at: usize, to: usize, version: u32) -> Pass
-    requires { ⌜ Begins (now src) at to ⌝ }
-    requires { ⌜ at + sourceUnits way 2 ≤ length (now src) ⌝ }
-    ensures { λ r. ⌜ PlainLed way version (now (src .entry)) (now (dst .entry)) (now (dst .exit)) at to r ⌝ }
+    requires { ⌜ Begins (units (now src)) at to ⌝ }
+    requires { ⌜ at + sourceUnits way 2 ≤ length (units (now src)) ⌝ }
+    ensures { λ r. ⌜ PlainLed way version (units (now (src .entry))) (now (dst .entry)) (now (dst .exit)) at to r ⌝ }
 {
     let letter = get(&*src, at, 2);
     if letter == TRANSPARENT {
@@ -156,8 +156,8 @@ fn plain(src: &[Unit], dst: &mut [Kept], at: usize, to: usize, version: u32) -> 
 }
 
 pub fn plain_paint(src: &[Unit], dst: &mut [Kept], at: usize, to: usize, version: u32) -> Pass
-    requires { ⌜ Begins (now src) at to ⌝ }
-    ensures { λ r. ⌜ Lays (P.plainPaint version) (now (src .entry)) (now (dst .entry)) (now (dst .exit)) at to r ⌝ }
+    requires { ⌜ Begins (units (now src)) at to ⌝ }
+    ensures { λ r. ⌜ Lays (P.plainPaint version) (units (now (src .entry))) (now (dst .entry)) (now (dst .exit)) at to r ⌝ }
 {
     if there(&*src, at, 2, 1) {
         return plain(&*src, dst, at, to, version);
@@ -167,9 +167,9 @@ pub fn plain_paint(src: &[Unit], dst: &mut [Kept], at: usize, to: usize, version
 
 // A letter that is allowed, two plain paints, and a direction or a location.
 fn gradient(src: &[Unit], dst: &mut [Kept], at: usize, to: usize, version: u32, high: u64) -> Pass
-    requires { ⌜ Begins (now src) at to ⌝ }
-    requires { ⌜ (at + sourceUnits way 2 ≤ length (now src)) × (valueAt way 2 (now src) at < 256 ^ 2) × (high < 2147483648) ⌝ }
-    ensures { λ r. ⌜ Led way (gradientParts version high .format) (now (src .entry)) (now (dst .entry)) (now (dst .exit)) at to r ⌝ }
+    requires { ⌜ Begins (units (now src)) at to ⌝ }
+    requires { ⌜ (at + sourceUnits way 2 ≤ length (units (now src))) × (valueAt way 2 (units (now src)) at < 256 ^ 2) × (high < 2147483648) ⌝ }
+    ensures { λ r. ⌜ Led way (gradientParts version high .format) (units (now (src .entry))) (now (dst .entry)) (now (dst .exit)) at to r ⌝ }
 {
     let told = keep(&*src, dst, at, to, 2);
     let start = plain_paint(&*src, dst, told.at, told.to, version);
@@ -189,8 +189,8 @@ fn is_radial(version: u32, letter: u64) -> bool
 }
 
 pub fn paint(src: &[Unit], dst: &mut [Kept], at: usize, to: usize, version: u32) -> Pass
-    requires { ⌜ Begins (now src) at to ⌝ }
-    ensures { λ r. ⌜ Lays (P.paint version) (now (src .entry)) (now (dst .entry)) (now (dst .exit)) at to r ⌝ }
+    requires { ⌜ Begins (units (now src)) at to ⌝ }
+    ensures { λ r. ⌜ Lays (P.paint version) (units (now (src .entry))) (now (dst .entry)) (now (dst .exit)) at to r ⌝ }
 {
     if there(&*src, at, 2, 1) {
         let letter = get(&*src, at, 2);

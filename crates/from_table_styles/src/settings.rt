@@ -27,6 +27,7 @@ ghost use Rattle.drawing.specs.Fields as F;
 ghost use Rattle.drawing.specs.Settings as S;
 ghost use Rattle.drawing.specs.SettingsLaws.{one-of-two, one-of-three};
 ghost use Rattle.from_table.specs.Lays.{Begins, Lays};
+ghost use Rattle.from_table.specs.Way.{units};
 
 // The last of the listed paper sizes.
 fn last_paper(version: u32) -> u64
@@ -39,8 +40,8 @@ fn last_paper(version: u32) -> u64
 }
 
 fn portrait(src: &[Unit], dst: &mut [Kept], at: usize, to: usize, version: u32) -> Pass
-    requires { ⌜ Begins (now src) at to ⌝ }
-    ensures { λ r. ⌜ Lays (when (ltb version 3) (field F.flag) 0) (now (src .entry)) (now (dst .entry)) (now (dst .exit)) at to r ⌝ }
+    requires { ⌜ Begins (units (now src)) at to ⌝ }
+    ensures { λ r. ⌜ Lays (when (ltb version 3) (field F.flag) 0) (units (now (src .entry))) (now (dst .entry)) (now (dst .exit)) at to r ⌝ }
 {
     if version < V1_3 {
         let told = flag(&*src, dst, at, to);
@@ -50,8 +51,8 @@ fn portrait(src: &[Unit], dst: &mut [Kept], at: usize, to: usize, version: u32) 
 }
 
 fn paper(src: &[Unit], dst: &mut [Kept], at: usize, to: usize, version: u32) -> Pass
-    requires { ⌜ Begins (now src) at to ⌝ }
-    ensures { λ r. ⌜ Lays (S.paper version) (now (src .entry)) (now (dst .entry)) (now (dst .exit)) at to r ⌝ }
+    requires { ⌜ Begins (units (now src)) at to ⌝ }
+    ensures { λ r. ⌜ Lays (S.paper version) (units (now (src .entry))) (now (dst .entry)) (now (dst .exit)) at to r ⌝ }
 {
     let high = last_paper(version);
     let told = byte(&*src, dst, at, to, 0, high);
@@ -66,8 +67,8 @@ fn paper(src: &[Unit], dst: &mut [Kept], at: usize, to: usize, version: u32) -> 
 
 // The settings are passed in three steps, since what the checker generates for a function grows with the square of its calls.
 fn ruler_settings(src: &[Unit], dst: &mut [Kept], at: usize, to: usize) -> Pass
-    requires { ⌜ Begins (now src) at to ⌝ }
-    ensures { λ r. ⌜ Lays (field (F.byteIn 0 3) & field F.integer & field F.integer) (now (src .entry)) (now (dst .entry)) (now (dst .exit)) at to r ⌝ }
+    requires { ⌜ Begins (units (now src)) at to ⌝ }
+    ensures { λ r. ⌜ Lays (field (F.byteIn 0 3) & field F.integer & field F.integer) (units (now (src .entry))) (now (dst .entry)) (now (dst .exit)) at to r ⌝ }
 {
     let unit = byte(&*src, dst, at, to, 0, LAST_UNIT);
     let measured = unit.pass;
@@ -78,8 +79,8 @@ fn ruler_settings(src: &[Unit], dst: &mut [Kept], at: usize, to: usize) -> Pass
 }
 
 fn tool_settings(src: &[Unit], dst: &mut [Kept], at: usize, to: usize, version: u32) -> Pass
-    requires { ⌜ Begins (now src) at to ⌝ }
-    ensures { λ r. ⌜ Lays (field (F.integerIn 0 7) & field F.integer & S.paper version & field (F.byteIn 0 3) & field F.integer & field F.integer) (now (src .entry)) (now (dst .entry)) (now (dst .exit)) at to r ⌝ }
+    requires { ⌜ Begins (units (now src)) at to ⌝ }
+    ensures { λ r. ⌜ Lays (field (F.integerIn 0 7) & field F.integer & S.paper version & field (F.byteIn 0 3) & field F.integer & field F.integer) (units (now (src .entry))) (now (dst .entry)) (now (dst .exit)) at to r ⌝ }
 {
     let tool = integer_to(&*src, dst, at, to, LAST_TOOL);
     let tooled = tool.pass;
@@ -90,8 +91,8 @@ fn tool_settings(src: &[Unit], dst: &mut [Kept], at: usize, to: usize, version: 
 }
 
 fn all_settings(src: &[Unit], dst: &mut [Kept], at: usize, to: usize, version: u32) -> Pass
-    requires { ⌜ Begins (now src) at to ⌝ }
-    ensures { λ r. ⌜ Lays (S.allSettings version) (now (src .entry)) (now (dst .entry)) (now (dst .exit)) at to r ⌝ }
+    requires { ⌜ Begins (units (now src)) at to ⌝ }
+    ensures { λ r. ⌜ Lays (S.allSettings version) (units (now (src .entry))) (now (dst .entry)) (now (dst .exit)) at to r ⌝ }
 {
     let grid = flag(&*src, dst, at, to);
     let gridded = grid.pass;
@@ -103,8 +104,8 @@ fn all_settings(src: &[Unit], dst: &mut [Kept], at: usize, to: usize, version: u
 }
 
 fn settings_from_flag(src: &[Unit], dst: &mut [Kept], at: usize, to: usize, version: u32) -> Pass
-    requires { ⌜ Begins (now src) at to ⌝ }
-    ensures { λ r. ⌜ Lays (oneOf F.flag S.absentCase (S.allCase version ∷ []) one-of-two) (now (src .entry)) (now (dst .entry)) (now (dst .exit)) at to r ⌝ }
+    requires { ⌜ Begins (units (now src)) at to ⌝ }
+    ensures { λ r. ⌜ Lays (oneOf F.flag S.absentCase (S.allCase version ∷ []) one-of-two) (units (now (src .entry))) (now (dst .entry)) (now (dst .exit)) at to r ⌝ }
 {
     let told = flag(&*src, dst, at, to);
     let behind = told.pass;
@@ -115,8 +116,8 @@ fn settings_from_flag(src: &[Unit], dst: &mut [Kept], at: usize, to: usize, vers
 }
 
 fn settings_from_byte(src: &[Unit], dst: &mut [Kept], at: usize, to: usize, version: u32) -> Pass
-    requires { ⌜ Begins (now src) at to ⌝ }
-    ensures { λ r. ⌜ Lays (oneOf (F.byteIn 0 2) S.absentCase (S.allCase version ∷ S.paperCase version ∷ []) one-of-three) (now (src .entry)) (now (dst .entry)) (now (dst .exit)) at to r ⌝ }
+    requires { ⌜ Begins (units (now src)) at to ⌝ }
+    ensures { λ r. ⌜ Lays (oneOf (F.byteIn 0 2) S.absentCase (S.allCase version ∷ S.paperCase version ∷ []) one-of-three) (units (now (src .entry))) (now (dst .entry)) (now (dst .exit)) at to r ⌝ }
 {
     let told = byte(&*src, dst, at, to, 0, LAST_SETTINGS);
     let which = told.value;
@@ -132,8 +133,8 @@ fn settings_from_byte(src: &[Unit], dst: &mut [Kept], at: usize, to: usize, vers
 
 // Below 1.3 a flag tells which settings there are, from 1.3 on a byte.
 pub fn settings(src: &[Unit], dst: &mut [Kept], at: usize, to: usize, version: u32) -> Pass
-    requires { ⌜ Begins (now src) at to ⌝ }
-    ensures { λ r. ⌜ Lays (S.settings version) (now (src .entry)) (now (dst .entry)) (now (dst .exit)) at to r ⌝ }
+    requires { ⌜ Begins (units (now src)) at to ⌝ }
+    ensures { λ r. ⌜ Lays (S.settings version) (units (now (src .entry))) (now (dst .entry)) (now (dst .exit)) at to r ⌝ }
 {
     if version < V1_3 {
         return settings_from_flag(&*src, dst, at, to, version);

@@ -1,6 +1,6 @@
 // The calls of the library, for other programs: each with its contract, which decides its answer and all lent memory for every input. What each
 // promises stands in crates/promises/specs/Promises.antt, from top to bottom. The numbers of answers are 01's.
-ghost use Rattle.promises.specs.Promises.{Reads, Checks, Writes, Lists, Paints, Texts, Extents};
+ghost use Rattle.promises.specs.Promises.{Reads, Checks, Writes, WritesSheet, ReadsSheet, Lists, Paints, Texts, Extents};
 ghost use mathlib.Core.Path.{_≡_};
 ghost use lib.ListN.{length};
 ghost use Rattle.drawing.specs.Questions.{shown};
@@ -34,6 +34,22 @@ pub fn write(contents: &[u32], bodies: &[u32], file: &mut [u8]) -> Answer
     ensures { λ r. ⌜ Writes (now (contents .entry)) (now (bodies .entry)) (now (file .entry)) r (now (file .exit)) ⌝ }
 {
     table::answers::write(contents, bodies, file)
+}
+
+// Writes a table as a sheet: row count, word count and contents in two bytes each, bodies in four. Number 0 with the sheet's length and the counts; 16 where there
+// is no such table; 17, with the bytes needed as offset, where there is no room. Memory changes only with number 0, and nothing past the sheet.
+pub fn sheet_write(contents: &[u32], bodies: &[u32], sheet: &mut [u8]) -> Answer
+    ensures { λ r. ⌜ WritesSheet (now (contents .entry)) (now (bodies .entry)) (now (sheet .entry)) r (now (sheet .exit)) ⌝ }
+{
+    sheets::write::write(contents, bodies, sheet)
+}
+
+// Reads a sheet into a table. Number 0 with the sheet's length and the counts of rows and words; 19 for bytes that are no sheet; 14 or 15, where there is no
+// room, with the sheet's length and the counts needed. Memory changes only with number 0.
+pub fn sheet_read(sheet: &[u8], contents: &mut [u32], bodies: &mut [u32]) -> Answer
+    ensures { λ r. ⌜ ReadsSheet (now (sheet .entry)) (now (contents .entry)) (now (bodies .entry)) r (now (contents .exit)) (now (bodies .exit)) ⌝ }
+{
+    sheets::read::read(sheet, contents, bodies)
 }
 
 // Lists the rows of a table whose objects have this label for their description, in the order in which the objects open. Number 0 with their count as

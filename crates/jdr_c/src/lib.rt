@@ -1,7 +1,7 @@
 // The calls of `jdr` for programs in other languages, under names of C and with C's way of passing: a slice is a pointer and a length in elements, an
 // answer a struct by value. include/jdr.h declares them. Each has the contract of the call that it passes on to (`jdr_paint` the same, said of a struct),
 // and asks nothing of its inputs but what C cannot say: that a run is aligned and as long as it is said to be, and that one lent for writing overlaps no other.
-ghost use Rattle.promises.specs.Promises.{Reads, Checks, Writes, Lists, Texts, Extents};
+ghost use Rattle.promises.specs.Promises.{Reads, Checks, Writes, WritesSheet, ReadsSheet, Lists, Texts, Extents};
 ghost use Rattle.jdr_c.specs.Values.{PaintsForC};
 use jdr::Answer;
 use jdr::ExtentAnswer;
@@ -48,6 +48,22 @@ pub extern "C" fn jdr_write(contents: &[u32], bodies: &[u32], file: &mut [u8]) -
     ensures { λ r. ⌜ Writes (now (contents .entry)) (now (bodies .entry)) (now (file .entry)) r (now (file .exit)) ⌝ }
 {
     jdr::write(contents, bodies, file)
+}
+
+// `jdr::sheet_write`.
+#[no_mangle]
+pub extern "C" fn jdr_sheet_write(contents: &[u32], bodies: &[u32], sheet: &mut [u8]) -> Answer
+    ensures { λ r. ⌜ WritesSheet (now (contents .entry)) (now (bodies .entry)) (now (sheet .entry)) r (now (sheet .exit)) ⌝ }
+{
+    jdr::sheet_write(contents, bodies, sheet)
+}
+
+// `jdr::sheet_read`.
+#[no_mangle]
+pub extern "C" fn jdr_sheet_read(sheet: &[u8], contents: &mut [u32], bodies: &mut [u32]) -> Answer
+    ensures { λ r. ⌜ ReadsSheet (now (sheet .entry)) (now (contents .entry)) (now (bodies .entry)) r (now (contents .exit)) (now (bodies .exit)) ⌝ }
+{
+    jdr::sheet_read(sheet, contents, bodies)
 }
 
 // `jdr::list`.

@@ -39,7 +39,7 @@ pub record Accepted (file contents bodies : List ℕ) : Type 0 where
   pub rows-fit : rowsOf drawing ≤ length contents / 4
   pub words-fit : wordCount drawing ≤ length bodies
 
-room-fits : (d : Drawing) (contents bodies : List ℕ) → roomFault d contents bodies ≡ 0 → (rowsOf d ≤ length contents / 4) × (wordCount d ≤ length bodies)
+pub room-fits : (d : Drawing) (contents bodies : List ℕ) → roomFault d contents bodies ≡ 0 → (rowsOf d ≤ length contents / 4) × (wordCount d ≤ length bodies)
 room-fits d contents bodies e =
     let rows-fit = leb (rowsOf d) (length contents / 4) in
     let words-fit = leb (wordCount d) (length bodies) in
@@ -50,7 +50,7 @@ fits-room : (d : Drawing) (contents bodies : List ℕ) → rowsOf d ≤ length c
 fits-room d contents bodies h g =
     ap₂ (λ s t. orElse (unless s 14) (unless t 15)) (le-leb (rowsOf d) (length contents / 4) h) (le-leb (wordCount d) (length bodies) g)
 
-stored-zero : (f : ℕ) (d : Drawing) (total : ℕ) (contents bodies : List ℕ) → stored f d total contents bodies .answer .number ≡ 0 → f ≡ 0
+pub stored-zero : (f : ℕ) (d : Drawing) (total : ℕ) (contents bodies : List ℕ) → stored f d total contents bodies .answer .number ≡ 0 → f ≡ 0
 stored-zero zero d total contents bodies e = refl
 stored-zero (suc n) d total contents bodies e = e
 
@@ -87,7 +87,7 @@ pub record Writable (contents bodies file : List ℕ) : Type 0 where
 write-drawing : (contents bodies file : List ℕ) (d : Drawing) → drawingOfTable contents bodies ≡ some d → length (fileOf d) ≤ length file
     → writeOutput contents bodies file ≡ record { answer = answer 0 (length (fileOf d)) (rowsOf d) (wordCount d); buffer = overwrite (fileOf d) file }
 write-drawing contents bodies file d e fits =
-    ap (λ o. writeFrom o file) e ∙ ap (λ t. written (unless t 17) d file) (le-leb (length (fileOf d)) (length file) fits)
+    ap (λ o. writeFrom o file) e ∙ ap (λ t. written (unless t 17) (fileOf d) d file) (le-leb (length (fileOf d)) (length file) fits)
 
 pub write-gives : (contents bodies file : List ℕ) → Below (2 ^ 32) bodies → (w : Writable contents bodies file)
     → writeOutput contents bodies file
@@ -95,9 +95,9 @@ pub write-gives : (contents bodies file : List ℕ) → Below (2 ^ 32) bodies �
 write-gives contents bodies file b w =
     write-drawing contents bodies file (w .drawing) (drawing-of-table contents bodies b (w .drawing) .1 (w .is-table)) (w .fits)
 
-written-zero : (f : ℕ) (d : Drawing) (file : List ℕ) → written f d file .answer .number ≡ 0 → f ≡ 0
-written-zero zero d file e = refl
-written-zero (suc n) d file e = e
+pub written-zero : (f : ℕ) (bytes : List ℕ) (d : Drawing) (file : List ℕ) → written f bytes d file .answer .number ≡ 0 → f ≡ 0
+written-zero zero bytes d file e = refl
+written-zero (suc n) bytes d file e = e
 
 pub write-accepts : (contents bodies file : List ℕ) → Below (2 ^ 32) bodies → (writeOutput contents bodies file .answer .number ≡ 0) ↔ Writable contents bodies file
 write-accepts contents bodies file b = (there (drawingOfTable contents bodies) refl, λ w. ap (λ o. o .answer .number) (write-gives contents bodies file b w))
@@ -109,7 +109,7 @@ write-accepts contents bodies file b = (there (drawingOfTable contents bodies) r
         record {
           drawing = d;
           is-table = drawing-of-table contents bodies b d .0 p;
-          fits = leb-true (length (fileOf d)) (length file) (unless-zero fit 17 tt (written-zero (unless fit 17) d file e));
+          fits = leb-true (length (fileOf d)) (length file) (unless-zero fit 17 tt (written-zero (unless fit 17) (fileOf d) d file e));
         }
 
 -- ---- there and back

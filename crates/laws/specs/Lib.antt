@@ -22,6 +22,9 @@ pub mod RowBodyLaws
 pub mod LeafPlaceLaws
 pub mod TextPlaceLaws
 pub mod AnswerLaws
+pub mod RoomLaws
 pub mod ParseLaws
 pub mod FileParseLaws
 pub mod ReadingLaws
+pub mod SheetNumberLaws
+pub mod SheetLaws

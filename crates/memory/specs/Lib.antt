@@ -7,4 +7,5 @@ pub mod StoreLaws
 pub mod FitLaws
 pub mod CharLaws
 pub mod Spelled
+pub mod PackedRunLaws
 pub mod WordLaws

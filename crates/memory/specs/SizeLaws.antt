@@ -41,7 +41,7 @@ small-value n v h small = let more : 256 ^ n ≤ 256 ^ 4 = Nat.pow-le-pow-right 
 
 -- ---- runs
 
-run-eight : (n : ℕ) → isRun n ≡ true → (n ≡ 2 → ⊥) → (n ≡ 4 → ⊥) → n ≡ 8
+pub run-eight : (n : ℕ) → isRun n ≡ true → (n ≡ 2 → ⊥) → (n ≡ 4 → ⊥) → n ≡ 8
 run-eight n e two four = eqb-true n 8 (simp ne-eqb at e)
 
 pub each-run : (P : ℕ → Type 0) (n : ℕ) → isRun n ≡ true → P 2 → P 4 → P 8 → P n

@@ -3,43 +3,30 @@ use mathlib.Core.Path.{_≡_, refl, sym, ap, ap₂, _∙_}
 use Prim.Native.Nat.{ℕ, zero, suc, _+_, _*_, _<_, _≤_}
 use native.Mathlib.Nat as Nat
 use native.Mathlib.Omega.{arith}
-use mathlib.Core.List.{List, [], _∷_, _++_, append-assoc}
+use mathlib.Core.List.{List, [], _∷_, _++_}
 use lib.ListN.{length, take, drop, getD, length-append}
 use lib.Seq.{drop-drop}
-use Rattle.format.specs.Digits.{number, digits}
-use Rattle.format.specs.DigitsLaws.{length-digits}
+use Rattle.format.specs.Digits.{number, digits, allDigits}
+use Rattle.format.specs.PackedLaws.{length-all-digits, all-digits-append}
 use Rattle.format.specs.LeafLaws.{field-one}
 use Rattle.format.specs.Pass.{splice}
 use Rattle.format.specs.SpliceLaws.{splice-behind}
 use Rattle.format.specs.Recode.{recoded}
 
--- Numbers, one behind the other, with so many digits each.
-abbrev pub spelled : (base n : ℕ) → List ℕ → List ℕ
-spelled base n [] = []
-spelled base n (v ∷ vs) = digits base n v ++ spelled base n vs
-
 module _ (base n : ℕ) where
-  length-spelled : (vs : List ℕ) → length (spelled base n vs) ≡ length vs * n
-  length-spelled [] = omega arith
-  length-spelled (v ∷ vs) = rw (length-append, length-digits base n v, length-spelled vs) (omega arith)
-
-  spelled-append : (vs ws : List ℕ) → spelled base n (vs ++ ws) ≡ spelled base n vs ++ spelled base n ws
-  spelled-append [] ws = refl
-  spelled-append (v ∷ vs) ws = ap (λ l. digits base n v ++ l) (spelled-append vs ws) ∙ sym (append-assoc (digits base n v) (spelled base n vs) (spelled base n ws))
-
   -- Some are written, and then others right behind them.
   pub spelled-behind : (vs ws : List ℕ) (place : ℕ) (s : List ℕ) {next : ℕ} {t u : List ℕ} → next ≡ place + length vs * n → place + (length vs + length ws) * n ≤ length s
-      → t ≡ splice place (spelled base n vs) s → u ≡ splice next (spelled base n ws) t → u ≡ splice place (spelled base n (vs ++ ws)) s
+      → t ≡ splice place (allDigits base n vs) s → u ≡ splice next (allDigits base n ws) t → u ≡ splice place (allDigits base n (vs ++ ws)) s
   spelled-behind vs ws place s {next} behind room first second =
-      let a = spelled base n vs in
-      let b = spelled base n ws in
-      let a-long : length a ≡ length vs * n = length-spelled vs in
-      let b-long : length b ≡ length ws * n = length-spelled ws in
+      let a = allDigits base n vs in
+      let b = allDigits base n ws in
+      let a-long : length a ≡ length vs * n = length-all-digits base n vs in
+      let b-long : length b ≡ length ws * n = length-all-digits base n ws in
       let long : length (a ++ b) ≡ length a + length b = length-append a b in
       second
       ∙ ap₂ (λ i l. splice i b l) (behind ∙ ap (λ i. place + i) (sym a-long)) first
       ∙ splice-behind place a b s (omega arith)
-      ∙ ap (λ l. splice place l s) (sym (spelled-append vs ws))
+      ∙ ap (λ l. splice place l s) (sym (all-digits-append base n vs ws))
 
 -- The words of a run, from the i-th on.
 abbrev wordsAt : List ℕ → (at i n : ℕ) → List ℕ
@@ -47,7 +34,7 @@ wordsAt us at i zero = []
 wordsAt us at i (suc n) = getD us (at + i) 0 ∷ wordsAt us at (i + 1) n
 
 module _ (base other u : ℕ) (us : List ℕ) (at : ℕ) where
-  recoded-words : (n i : ℕ) → at + i + n ≤ length us → recoded base 1 other u n (drop (at + i) us) ≡ spelled other u (wordsAt us at i n)
+  recoded-words : (n i : ℕ) → at + i + n ≤ length us → recoded base 1 other u n (drop (at + i) us) ≡ allDigits other u (wordsAt us at i n)
   recoded-words zero i inside = refl
   recoded-words (suc n) i inside =
       let one : number base (take 1 (drop (at + i) us)) ≡ getD us (at + i) 0 = field-one base us (at + i) (omega arith) in
@@ -57,7 +44,7 @@ module _ (base other u : ℕ) (us : List ℕ) (at : ℕ) where
 
   -- The next eight words.
   pub eight-words : at + 8 ≤ length us
-      → spelled other u (getD us at 0 ∷ getD us (at + 1) 0 ∷ getD us (at + 2) 0 ∷ getD us (at + 3) 0 ∷ getD us (at + 4) 0 ∷ getD us (at + 5) 0 ∷ getD us (at + 6) 0 ∷ getD us (at + 7) 0 ∷ [])
+      → allDigits other u (getD us at 0 ∷ getD us (at + 1) 0 ∷ getD us (at + 2) 0 ∷ getD us (at + 3) 0 ∷ getD us (at + 4) 0 ∷ getD us (at + 5) 0 ∷ getD us (at + 6) 0 ∷ getD us (at + 7) 0 ∷ [])
       ≡ recoded base 1 other u 8 (drop at us)
   eight-words inside =
       let here : at + 0 ≡ at = Nat.add-zero at in

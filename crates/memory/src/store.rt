@@ -56,7 +56,14 @@ fn field_at(file: &[u8], at: usize, size: usize) -> u32
 }
 
 // Fields of one word each, which fit. The size is the same in every step, so the compiler makes a loop for each.
-fn store_fields(file: &[u8], from: usize, bodies: &mut [u32], to: usize, size: usize, count: usize)
+pub fn store_fields(
+    file: &[u8],
+    from: usize,
+    bodies: &mut [u32],
+    to: usize,
+    size: usize,
+    count: usize,
+)
     requires { ⌜ (isShort size ≡ true) × Room (now file) from size 1 count to (length (now bodies)) ⌝ }
     ensures { λ r. ⌜ now (bodies .exit) ≡ splice to (recoded 256 size (2 ^ 32) 1 count (drop from (now (file .entry)))) (now (bodies .entry)) ⌝ }
 {

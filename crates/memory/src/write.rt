@@ -9,13 +9,12 @@ ghost use mathlib.Core.Bool.{true};
 ghost use mathlib.Core.List.{[], _∷_};
 ghost use Prim.Native.Nat.{_+_, _*_, _/_, _^_, _<_, _≤_};
 ghost use lib.ListN.{length, drop};
-ghost use Rattle.format.specs.Digits.{digits};
+ghost use Rattle.format.specs.Digits.{digits, allDigits};
 ghost use Rattle.format.specs.Pass.{splice, put};
 ghost use Rattle.format.specs.Recode.{recoded};
 ghost use Rattle.format.specs.RunLaws.{putMany};
 ghost use Rattle.memory.specs.Sizes.{isField, isRun, isShort};
 ghost use Rattle.memory.specs.Runs.{Room, AllChars, SmallWords, EightChars};
-ghost use Rattle.memory.specs.Spelled.{spelled};
 
 pub fn write_value(out: &mut [u8], to: usize, size: usize, value: u64)
     requires { ⌜ (to < 2 ^ 60) × (isField size ≡ true) × (value < 256 ^ size) ⌝ }
@@ -44,7 +43,14 @@ fn put_field(out: &mut [u8], place: usize, size: usize, value: u32)
 }
 
 // Fields of one word each, which fit. The size is the same in every step, so the compiler makes a loop for each.
-fn write_fields(words: &[u32], from: usize, out: &mut [u8], to: usize, size: usize, count: usize)
+pub fn write_fields(
+    words: &[u32],
+    from: usize,
+    out: &mut [u8],
+    to: usize,
+    size: usize,
+    count: usize,
+)
     requires { ⌜ (isShort size ≡ true) × Room (now words) from 1 size count to (length (now out)) ⌝ }
     requires { ⌜ SmallWords size (now words) from count ⌝ }
     ensures { λ r. ⌜ now (out .exit) ≡ splice to (recoded (2 ^ 32) 1 256 size count (drop from (now (words .entry)))) (now (out .entry)) ⌝ }
@@ -62,7 +68,7 @@ fn write_fields(words: &[u32], from: usize, out: &mut [u8], to: usize, size: usi
 
 fn put_four(out: &mut [u8], to: usize, a: u32, b: u32, c: u32, d: u32)
     requires { ⌜ (to + 8 ≤ length (now out)) × (a < 65536) × (b < 65536) × (c < 65536) × (d < 65536) ⌝ }
-    ensures { λ r. ⌜ now (out .exit) ≡ splice to (spelled 256 2 (a ∷ b ∷ c ∷ d ∷ [])) (now (out .entry)) ⌝ }
+    ensures { λ r. ⌜ now (out .exit) ≡ splice to (allDigits 256 2 (a ∷ b ∷ c ∷ d ∷ [])) (now (out .entry)) ⌝ }
 {
     put_char(out, to, a);
     put_char(out, to + 2, b);

@@ -2,8 +2,8 @@
 use crate::Part;
 use crate::behind::behind;
 use drawing::row::GROUP_KIND;
+use rows::kind::letter_of;
 use rows::look::kind_in;
-use rows::look::letter_of;
 use rows::look::start_in;
 ghost use Rattle.places.specs.Rows.{HasRow, EndIs};
 

@@ -2,7 +2,7 @@
 use mathlib.Core.Path.{_≡_, refl, sym, ap, ap₂, subst, _∙_}
 use mathlib.Core.Logic.{_⊎_, _↔_, inl, inr}
 use mathlib.Core.Bool.{Bool, true, false, cond}
-use mathlib.Core.Option.{Option, none, some, Option·map}
+use mathlib.Core.Option.{Option, none, some, Option·map, Option·none-ne-some}
 use Prim.Native.Nat.{ℕ, _^_}
 use native.Mathlib.Omega.{arith}
 use mathlib.Core.List.{List, [], List·Memᴰ}
@@ -27,22 +27,25 @@ use Rattle.drawing.specs.Reading.{Reading, drawing, refusal, drawingOf}
 use Rattle.drawing.specs.Refusal.{Refused}
 use Rattle.drawing.specs.Table.{startIn, IsTable}
 use Rattle.drawing.specs.TableDrawing.{drawingOfTable}
+use Rattle.drawing.specs.Sheet.{numberBytes, IsSheet}
+use Rattle.drawing.specs.SheetDrawing.{drawingOfSheet}
 use Rattle.drawing.specs.Order.{objectsOf, descriptionOf, entries, groupsAround, ParentChain}
-use Rattle.drawing.specs.Answers.{answer, overwrite, roomFault, stored, tableRefused, tableChecked, Output, nothingStored, tableWritten, listed, tableListed}
+use Rattle.drawing.specs.Answers.{answer, overwrite, roomFault, stored, tableRefused, tableChecked, Output, nothingStored, tableWritten, sheetWritten, sheetRead, sheetRefused, listed, tableListed}
 use Rattle.drawing.specs.Questions as Q
 use Rattle.drawing.specs.Questions.{CharsAt}
 use Rattle.drawing.specs.Path.{Outline}
 use Rattle.drawing.specs.Extent as E
-use Rattle.drawing.specs.Computed.{fromTable, readFrom, readResult, checkAnswer, writeOutput, listOutput, paintAnswer, textValue, textIn, textAnswer, extentValue, extentAnswer}
+use Rattle.drawing.specs.Computed.{fromTable, readFrom, readResult, checkAnswer, writeOutput, sheetOutput, sheetResult, listOutput, paintAnswer, textValue, textIn, textAnswer, extentValue, extentAnswer}
 use Rattle.laws.specs.DrawingLaws.{drawing-of-bytes, refusal-of-bytes}
-use Rattle.laws.specs.TableLaws.{drawing-of-table, no-drawing}
+use Rattle.laws.specs.TableLaws.{drawing-of-table}
+use Rattle.laws.specs.SheetLaws.{drawing-of-sheet}
 use Rattle.laws.specs.AnswerLaws.{take-overwrite}
 use Rattle.laws.specs.EntryLaws.{entries-are, entries-increasing}
 use Rattle.laws.specs.OrderLaws.{leads}
 use Rattle.laws.specs.RowBodies.{RowBody}
 use Rattle.laws.specs.RowBodyLaws.{row-object, object-row, object-body}
 use Rattle.laws.specs.TextPlaceLaws.{text-chars, alternative-of}
-use Rattle.promises.specs.Promises.{readTo, Reads, ByTable, OfTable, by-table, Demanded, demand3, outputTo, Checks, Writes, Listed, Lists, Paints, Texts, Extents}
+use Rattle.promises.specs.Promises.{readTo, Reads, ByDrawing, Decided, by-drawing, OfTable, Demanded, demand3, outputTo, Checks, Writes, WritesSheet, ReadsSheet, Listed, Lists, Paints, Texts, Extents}
 
 -- ---- read
 
@@ -62,31 +65,53 @@ reads {file} {contents} {bodies} below is =
     by (drawing d) e = let f = drawing-of-bytes file below d .0 e in inl (d, record { acceptable = f .0; bytes-are = f .1 })
     by (refusal n o) e = inr (n, o, refusal-of-bytes file below n o .0 e)
 
--- ---- calls that take a table
+-- ---- calls that take what one drawing has
 
-told-by-table : {R : Type 0} {contents bodies : List ℕ} (of : Drawing → R) (bad : R) {result : R} → Below (2 ^ 32) bodies → result ≡ fromTable of bad (drawingOfTable contents bodies) → ByTable contents bodies of bad result
-told-by-table {R} {contents} {bodies} of bad below is =
-    record {
-      table = λ d t. is ∙ ap (fromTable of bad) (drawing-of-table contents bodies below d .1 t);
-      no-table = λ none-has. is ∙ ap (fromTable of bad) (no-drawing contents bodies below .1 none-has);
-      one-or-other = by (drawingOfTable contents bodies) refl;
-    }
-  where
-    by : (o : Option Drawing) → drawingOfTable contents bodies ≡ o → ((d : Drawing) × IsTable contents bodies d) ⊎ ((d : Drawing) → IsTable contents bodies d → ⊥)
-    by none e = inr (no-drawing contents bodies below .0 e)
-    by (some d) e = inl (d, drawing-of-table contents bodies below d .0 e)
+-- What one drawing has is computed: it is d's exactly where the computed drawing is d.
+module _ {R : Type 0} (Is : Drawing → Type 0) (found : Option Drawing) (exactly : (d : Drawing) → (found ≡ some d) ↔ Is d) (of : Drawing → R) (bad : R) where
+  told : {result : R} → result ≡ fromTable of bad found → ByDrawing Is of bad result
+  told is =
+      record {
+        one = λ d t. is ∙ ap (fromTable of bad) (exactly d .1 t);
+        none = λ none-has. is ∙ ap (fromTable of bad) (lacks found refl none-has);
+        one-or-other = by found refl;
+      }
+    where
+      lacks : (o : Option Drawing) → found ≡ o → ((d : Drawing) → Is d → ⊥) → found ≡ none
+      lacks none e none-has = e
+      lacks (some d) e none-has = absurd (none-has d (exactly d .0 e))
 
-pub opened : {R : Type 0} {contents bodies : List ℕ} {of : Drawing → R} {bad result : R} → OfTable contents bodies of bad result → ByTable contents bodies of bad result
-opened (by-table says) = says
+      by : (o : Option Drawing) → found ≡ o → ((d : Drawing) × Is d) ⊎ ((d : Drawing) → Is d → ⊥)
+      by none e = inr (λ d t. Option·none-ne-some d (sym e ∙ exactly d .1 t))
+      by (some d) e = inl (d, exactly d .0 e)
+
+pub opened : {R : Type 0} {Is : Drawing → Type 0} {of : Drawing → R} {bad result : R} → Decided Is of bad result → ByDrawing Is of bad result
+opened (by-drawing says) = says
+
+told-by-table : {R : Type 0} {contents bodies : List ℕ} (of : Drawing → R) (bad : R) {result : R} → Below (2 ^ 32) bodies → result ≡ fromTable of bad (drawingOfTable contents bodies) → ByDrawing (IsTable contents bodies) of bad result
+told-by-table {contents = contents} {bodies} of bad below is =
+    told (IsTable contents bodies) (drawingOfTable contents bodies) (drawing-of-table contents bodies below) of bad is
 
 pub of-table : {R : Type 0} {contents bodies : List ℕ} (of : Drawing → R) (bad : R) {result : R} → Below (2 ^ 32) bodies → result ≡ fromTable of bad (drawingOfTable contents bodies) → OfTable contents bodies of bad result
-of-table of bad below is = by-table (told-by-table of bad below is)
+of-table of bad below is = by-drawing (told-by-table of bad below is)
 
 pub checks : {contents bodies : List ℕ} {r : Answer} → Below (2 ^ 32) bodies → r ≡ checkAnswer contents bodies → Checks contents bodies r
 checks below is = record { decides = of-table tableChecked tableRefused below is; says = is }
 
 pub writes : {contents bodies file file′ : List ℕ} {r : Answer} → Below (2 ^ 32) bodies → outputTo r file′ ≡ writeOutput contents bodies file → Writes contents bodies file r file′
 writes {file = file} below is = record { decides = of-table (tableWritten file) (nothingStored file) below is; says = is }
+
+-- ---- sheets
+
+pub writes-sheet : {contents bodies sheet sheet′ : List ℕ} {r : Answer} → Below (2 ^ 32) bodies → outputTo r sheet′ ≡ sheetOutput contents bodies sheet → WritesSheet contents bodies sheet r sheet′
+writes-sheet {sheet = sheet} below is = record { decides = of-table (sheetWritten sheet) (nothingStored sheet) below is; says = is }
+
+pub reads-sheet : {sheet contents bodies contents′ bodies′ : List ℕ} {r : Answer} → Below 256 sheet → readTo r contents′ bodies′ ≡ sheetResult sheet contents bodies → ReadsSheet sheet contents bodies r contents′ bodies′
+reads-sheet {sheet} {contents} {bodies} below is =
+    record {
+      decides = by-drawing (told (IsSheet sheet) (drawingOfSheet numberBytes sheet) (drawing-of-sheet sheet below) (λ d. sheetRead d contents bodies) (sheetRefused contents bodies) is);
+      says = is;
+    }
 
 -- ---- list
 
@@ -108,11 +133,11 @@ entries-listed c bs label d table =
       leads = λ row member. subst (λ l. ParentChain l row (getD (groupsAround d) row [])) (sym (table .contents-are)) (leads d row (entries-are label d row .0 member .0));
     }
 
-demanded : (contents bodies : List ℕ) (label : String) (list : List ℕ) {list′ : List ℕ} {r : Answer} → ByTable contents bodies (tableListed label list) (nothingStored list) (outputTo r list′) → Demanded contents bodies label list r list′
+demanded : (contents bodies : List ℕ) (label : String) (list : List ℕ) {list′ : List ℕ} {r : Answer} → ByDrawing (IsTable contents bodies) (tableListed label list) (nothingStored list) (outputTo r list′) → Demanded contents bodies label list r list′
 demanded contents bodies label list {list′} {r} decides =
     demand3 (λ d table room.
     let E = entries label d in
-    let output = decides .table d table ∙ ap (λ t. listed (unless t 18) E list) (le-leb (length E) (length list) room) in
+    let output = decides .one d table ∙ ap (λ t. listed (unless t 18) E list) (le-leb (length E) (length list) room) in
     let rows-are : r .rows ≡ length E = ap (λ (o : Output). o .answer .rows) output in
     let list-is : list′ ≡ overwrite E list = ap (λ (o : Output). o .buffer) output in
     let taken : take (r .rows) list′ ≡ E = ap₂ take rows-are list-is ∙ take-overwrite E list (length E) refl in
@@ -121,7 +146,7 @@ demanded contents bodies label list {list′} {r} decides =
 pub lists : {contents bodies : List ℕ} {label : String} {list list′ : List ℕ} {r : Answer} → Below (2 ^ 32) bodies → outputTo r list′ ≡ listOutput contents bodies label list → Lists contents bodies label list r list′
 lists {contents} {bodies} {label} {list} below is =
     let decides = told-by-table (tableListed label list) (nothingStored list) below is in
-    record { decides = by-table decides; demands = demanded contents bodies label list decides; says = is }
+    record { decides = by-drawing decides; demands = demanded contents bodies label list decides; says = is }
 
 -- ---- questions
 
@@ -136,11 +161,11 @@ pub paints : {contents bodies : List ℕ} {row : ℕ} {which : Which} {r : Paint
 paints {contents} {bodies} {row} {which} below is =
     let decides = told-by-table (Q.paintAsked which row) (Paint.Refused 16) below is in
     record {
-      decides = by-table decides;
+      decides = by-drawing decides;
       gives =
-          by-table (record {
-            table = λ d t. ap Q.paintGiven (decides .table d t) ∙ given-paint (Q.partOf (Q.paintPart which) row d);
-            no-table = λ none-has. ap Q.paintGiven (decides .no-table none-has);
+          by-drawing (record {
+            one = λ d t. ap Q.paintGiven (decides .one d t) ∙ given-paint (Q.partOf (Q.paintPart which) row d);
+            none = λ none-has. ap Q.paintGiven (decides .none none-has);
             one-or-other = decides .one-or-other;
           });
       says = is;
@@ -167,17 +192,17 @@ texts {contents} {bodies} {row} {r} below is =
     let computed = told-by-table (textIn contents row) (textValue (Q.noText 16)) below is in
     record {
       decides =
-          by-table (record {
-            table = λ d t.
-                ap Q.textGiven (computed .table d t)
+          by-drawing (record {
+            one = λ d t.
+                ap Q.textGiven (computed .one d t)
                 ∙ given-text (startIn contents row) (d .version) (Q.partOf (Q.textPart (d .version)) row d)
                 ∙ ap (λ c. Q.textPlaces (startIn c row) (d .version) (Q.partOf (Q.textPart (d .version)) row d)) (t .contents-are);
-            no-table = λ none-has. ap Q.textGiven (computed .no-table none-has);
+            none = λ none-has. ap Q.textGiven (computed .none none-has);
             one-or-other = computed .one-or-other;
           });
       places = λ d o t table object-is has.
           let answer-is : r ≡ textValue (Q.textPlaces (startIn contents row) (d .version) (Q.orRefusal 7 (Q.textPart (d .version) o))) =
-          computed .table d table
+          computed .one d table
           ∙ ap (λ x. textValue (Q.textPlaces (startIn contents row) (d .version) (Q.partAt (Q.textPart (d .version)) x))) object-is in
           subst (Placed contents bodies row (d .version) t) (sym answer-is) (by-object contents bodies row (d .version) t o (object-body contents bodies d table row o object-is) has);
       says = is;
@@ -197,9 +222,9 @@ extents {contents} {bodies} {row} below is =
     let computed = told-by-table (λ d. extentValue (E.extentAsked row d)) (extentValue (E.noExtent 16)) below is in
     record {
       decides =
-          by-table (record {
-            table = λ d t. ap E.extentGiven (computed .table d t) ∙ given-extent (d .version) (Q.partOf (Q.leafPart E.outlineIn) row d);
-            no-table = λ none-has. ap E.extentGiven (computed .no-table none-has);
+          by-drawing (record {
+            one = λ d t. ap E.extentGiven (computed .one d t) ∙ given-extent (d .version) (Q.partOf (Q.leafPart E.outlineIn) row d);
+            none = λ none-has. ap E.extentGiven (computed .none none-has);
             one-or-other = computed .one-or-other;
           });
       says = is;

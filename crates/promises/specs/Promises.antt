@@ -1,7 +1,7 @@
 -- What each call promises, for every input: its answer, and what the lent memory then holds (01, 'Numbers given back', 'What each contract owes').
 --
 -- Each promise says it of the drawing, and then once more by an equation, `says`, with a definition that computes the answer (Computed.antt in
--- crates/drawing). The first decide everything; only these have to be believed, with the definitions that they name: IsFile, Refused, IsTable, the answers
+-- crates/drawing). The first decide everything; only these have to be believed, with the definitions that they name: IsFile, Refused, IsTable, IsSheet, the answers
 -- for a drawing (Answers.antt), the order of objects (Order.antt) and the questions (Questions.antt, Extent.antt). A run that is lent by `&` cannot change, so
 -- the promises speak of runs that are lent by `&mut`.
 use mathlib.Core.Path.{_≡_}
@@ -22,11 +22,12 @@ use Rattle.drawing.specs.Object.{Object}
 use Rattle.drawing.specs.Drawing.{Drawing, IsFile}
 use Rattle.drawing.specs.Refusal.{Refused}
 use Rattle.drawing.specs.Table.{IsTable}
+use Rattle.drawing.specs.Sheet.{IsSheet}
 use Rattle.drawing.specs.Order.{objectsOf, descriptionOf, entries, groupsAround, ParentChain}
-use Rattle.drawing.specs.Answers.{ReadResult, fileRead, unread, tableRefused, tableChecked, Output, nothingStored, tableWritten, tableListed}
+use Rattle.drawing.specs.Answers.{ReadResult, fileRead, unread, tableRefused, tableChecked, Output, nothingStored, tableWritten, sheetWritten, sheetRead, sheetRefused, tableListed}
 use Rattle.drawing.specs.Questions.{refusal, partOf, paintPart, paintAsked, paintGiven, paintOf, textAsked, noText, textGiven, leafPart, wording, alternativeOf, CharsAt}
 use Rattle.drawing.specs.Extent.{extentAsked, noExtent, extentGiven}
-use Rattle.drawing.specs.Computed.{readResult, checkAnswer, writeOutput, listOutput, paintAnswer, textAnswer, extentAnswer}
+use Rattle.drawing.specs.Computed.{readResult, checkAnswer, writeOutput, sheetOutput, sheetResult, listOutput, paintAnswer, textAnswer, extentAnswer}
 
 -- ---- read
 
@@ -43,18 +44,24 @@ pub record Reads (file contents bodies : List ℕ) (r : Answer) (contents′ bod
   pub one-or-other : ((d : Drawing) × IsFile file d) ⊎ ((number : ℕ) × (offset : ℕ) × Refused file number offset)
   pub says : readTo r contents′ bodies′ ≡ readResult file contents bodies
 
--- ---- calls that take a table
+-- ---- calls that take what one drawing has: its table, or its sheet
 
--- What such a call comes to: `of d` where d has the table, `bad` where no drawing has it.
-pub record ByTable {R : Type 0} (contents bodies : List ℕ) (of : Drawing → R) (bad : R) (result : R) : Type 0 where
-  pub table : (d : Drawing) → IsTable contents bodies d → result ≡ of d
-  pub no-table : ((d : Drawing) → IsTable contents bodies d → ⊥) → result ≡ bad
-  -- every two runs are one or the other
-  pub one-or-other : ((d : Drawing) × IsTable contents bodies d) ⊎ ((d : Drawing) → IsTable contents bodies d → ⊥)
+-- What such a call comes to: `of d` where it is d's, `bad` where no drawing has it.
+pub record ByDrawing {R : Type 0} (Is : Drawing → Type 0) (of : Drawing → R) (bad : R) (result : R) : Type 0 where
+  pub one : (d : Drawing) → Is d → result ≡ of d
+  pub none : ((d : Drawing) → Is d → ⊥) → result ≡ bad
+  -- some drawing has it, or none has
+  pub one-or-other : ((d : Drawing) × Is d) ⊎ ((d : Drawing) → Is d → ⊥)
 
 -- The same as a type of its own, which a search for a proof does not look into.
-pub data OfTable {R : Type 0} (contents bodies : List ℕ) (of : Drawing → R) (bad result : R) : Type 0 where
-  by-table : ByTable contents bodies of bad result → OfTable contents bodies of bad result
+pub data Decided {R : Type 0} (Is : Drawing → Type 0) (of : Drawing → R) (bad result : R) : Type 0 where
+  by-drawing : ByDrawing Is of bad result → Decided Is of bad result
+
+abbrev pub OfTable : {R : Type 0} (contents bodies : List ℕ) (of : Drawing → R) (bad result : R) → Type 0
+OfTable contents bodies of bad result = Decided (IsTable contents bodies) of bad result
+
+abbrev pub OfSheet : {R : Type 0} (sheet : List ℕ) (of : Drawing → R) (bad result : R) → Type 0
+OfSheet sheet of bad result = Decided (IsSheet sheet) of bad result
 
 -- ---- check
 
@@ -71,6 +78,16 @@ outputTo r buffer = record { answer = r; buffer = buffer }
 pub record Writes (contents bodies file : List ℕ) (r : Answer) (file′ : List ℕ) : Type 0 where
   pub decides : OfTable contents bodies (tableWritten file) (nothingStored file) (outputTo r file′)
   pub says : outputTo r file′ ≡ writeOutput contents bodies file
+
+-- ---- sheets
+
+pub record WritesSheet (contents bodies sheet : List ℕ) (r : Answer) (sheet′ : List ℕ) : Type 0 where
+  pub decides : OfTable contents bodies (sheetWritten sheet) (nothingStored sheet) (outputTo r sheet′)
+  pub says : outputTo r sheet′ ≡ sheetOutput contents bodies sheet
+
+pub record ReadsSheet (sheet contents bodies : List ℕ) (r : Answer) (contents′ bodies′ : List ℕ) : Type 0 where
+  pub decides : OfSheet sheet (λ d. sheetRead d contents bodies) (sheetRefused contents bodies) (readTo r contents′ bodies′)
+  pub says : readTo r contents′ bodies′ ≡ sheetResult sheet contents bodies
 
 -- ---- list
 

@@ -21,6 +21,7 @@ use Rattle.drawing.specs.Table.{headWords, contentsOf, bodiesOf}
 use Rattle.drawing.specs.Answers.{answer, overwrite, rowsOf, wordCount, roomFault, stored}
 use Rattle.drawing.specs.Computed.{readFrom, readResult}
 use Rattle.laws.specs.OrderLaws.{contents-length}
+use Rattle.laws.specs.RoomLaws.{splice-first, lacks-rows, lacks-words, has-room}
 use Rattle.promises.specs.Promises.{Reads}
 use Rattle.promises.specs.PromiseLaws.{reads}
 use Rattle.ways.specs.Passes as Passes
@@ -90,10 +91,6 @@ module _ {file cs bs cs′ bs′ : List ℕ} {r : Walked} (descends : DescendsFi
 
 -- ---- the answer
 
--- What is stored at the beginning overwrites it.
-splice-first : (ws s : List ℕ) → splice 0 ws s ≡ overwrite ws s
-splice-first ws s = ap (λ n. ws ++ drop n s) (Nat.zero-add (length ws))
-
 overwritten : {ws m m′ : List ℕ} → Writes 0 ws m m′ → length ws ≤ length m → m′ ≡ overwrite ws m
 overwritten {ws} {m} written fits = written .stands (omega arith) ∙ splice-first ws m
 
@@ -102,43 +99,20 @@ module _ (file cs bs : List ℕ) (below : Below 256 file) where
   read-refused gone is = reads below (ap (λ a. record { answer = a; contents = cs; bodies = bs }) is ∙ sym (ap (λ q. readFrom q (length file) cs bs) (gone .reads)))
 
   module _ (at rows words : ℕ) (j : Judged file at rows words) where
-    -- The result, by what the room lacks.
-    by-room : (f : ℕ) → roomFault (j .d) cs bs ≡ f → readResult file cs bs ≡ stored f (j .d) (length file) cs bs
-    by-room f e = ap (λ q. readFrom q (length file) cs bs) (j .reads) ∙ ap (λ f. stored f (j .d) (length file) cs bs) e
-
-    same-answer : {n : ℕ} {a : Answer} → a ≡ answer n at rows words → a ≡ answer n (length file) (rowsOf (j .d)) (wordCount (j .d))
-    same-answer {n} is =
-        is
-        ∙ ap (λ a. answer n a rows words) (j .at-is)
-        ∙ ap (λ r. answer n (length file) r words) (j .rows-are)
-        ∙ ap (λ w. answer n (length file) (rowsOf (j .d)) w) (j .words-are)
+    same-result : readResult file cs bs ≡ stored (roomFault (j .d) cs bs) (j .d) (length file) cs bs
+    same-result = ap (λ q. readFrom q (length file) cs bs) (j .reads)
 
     pub short-rows : {a : Answer} → length cs / 4 < rows → a ≡ answer 14 at rows words → Reads file cs bs a cs bs
-    short-rows lack is =
-        let lacks : leb (rowsOf (j .d)) (length cs / 4) ≡ false = lt-leb (rowsOf (j .d)) (length cs / 4) (subst (λ r. length cs / 4 < r) (j .rows-are) lack) in
-        reads below
-        (ap (λ a. record { answer = a; contents = cs; bodies = bs }) (same-answer is)
-        ∙ sym (by-room 14 (ap (λ t. orElse (unless t 14) (unless (leb (wordCount (j .d)) (length bs)) 15)) lacks)))
+    short-rows lack is = reads below (lacks-rows (j .d) (length file) cs bs (j .at-is) (j .rows-are) (j .words-are) lack is ∙ sym same-result)
 
     module _ (rows-fit : rows ≤ length cs / 4) where
-      enough-rows : leb (rowsOf (j .d)) (length cs / 4) ≡ true
-      enough-rows = le-leb (rowsOf (j .d)) (length cs / 4) (subst (λ r. r ≤ length cs / 4) (j .rows-are) rows-fit)
-
       pub short-words : {a : Answer} → length bs < words → a ≡ answer 15 at rows words → Reads file cs bs a cs bs
-      short-words lack is =
-          let lacks : leb (wordCount (j .d)) (length bs) ≡ false = lt-leb (wordCount (j .d)) (length bs) (subst (λ w. length bs < w) (j .words-are) lack) in
-          reads below
-          (ap (λ a. record { answer = a; contents = cs; bodies = bs }) (same-answer is)
-          ∙ sym (by-room 15 (ap₂ (λ t u. orElse (unless t 14) (unless u 15)) enough-rows lacks)))
+      short-words lack is = reads below (lacks-words (j .d) (length file) cs bs (j .at-is) (j .rows-are) (j .words-are) rows-fit lack is ∙ sym same-result)
 
       pub read-stored : {cs′ bs′ : List ℕ} {r : Walked} {a : Answer} → words ≤ length bs → DescendsFile file cs bs cs′ bs′ r → a ≡ answer 0 at rows words → Reads file cs bs a cs′ bs′
       read-stored {cs′} {bs′} {r} words-fit descends is =
           let kept = kept-again descends (j .reads) in
-          let enough-words = le-leb (wordCount (j .d)) (length bs) (subst (λ w. w ≤ length bs) (j .words-are) words-fit) in
           let long = contents-length (outer (j .d)) (j .d .version) 0 0 (length (headWords (j .d))) in
           let rows-stored : cs′ ≡ overwrite (contentsOf (j .d)) cs = overwritten (kept .rows-written) (omega (arith, long, rows-fit, j .rows-are)) in
           let words-stored : bs′ ≡ overwrite (bodiesOf (j .d)) bs = overwritten (kept .words-written) (omega (arith, words-fit, j .words-are)) in
-          reads below
-          (ap (λ a. record { answer = a; contents = cs′; bodies = bs′ }) (same-answer is)
-          ∙ ap₂ (λ c b. record { answer = answer 0 (length file) (rowsOf (j .d)) (wordCount (j .d)); contents = c; bodies = b }) rows-stored words-stored
-          ∙ sym (by-room 0 (ap₂ (λ t u. orElse (unless t 14) (unless u 15)) enough-rows enough-words)))
+          reads below (has-room (j .d) (length file) cs bs (j .at-is) (j .rows-are) (j .words-are) rows-fit words-fit is rows-stored words-stored ∙ sym same-result)

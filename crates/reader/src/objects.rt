@@ -11,7 +11,7 @@ use from_file::prims::refusal;
 use from_file::prims::there;
 use from_file_objects::end::group_end;
 use from_file_objects::leaf::leaf_body;
-use rows::store::leaf_kind;
+use rows::kind::leaf_kind;
 use rows::store::put_row;
 use rows::walked::Walked;
 use ways::Pass;

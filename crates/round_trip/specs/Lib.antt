@@ -2,3 +2,5 @@
 pub mod RoundTrip
 pub mod RoundTripLaws
 pub mod ShownLaws
+pub mod SheetTrip
+pub mod SheetTripLaws

@@ -14,7 +14,7 @@ use Rattle.drawing.specs.Drawing.{Drawing}
 use Rattle.drawing.specs.Table.{startIn, contentsOf, IsTable}
 use Rattle.drawing.specs.Order.{objectsOf}
 use Rattle.drawing.specs.Questions.{partAt, orRefusal, leafPart, wording, beforeStyle, TextGiven, textPart, textPlaces, textAsked, alternativeOf, CharsAt, shown}
-use Rattle.promises.specs.Promises.{by-table, Texts}
+use Rattle.promises.specs.Promises.{by-drawing, Texts}
 use Rattle.promises.specs.PromiseLaws.{opened}
 use Rattle.round_trip.specs.RoundTrip.{charsShown, ShowsText}
 
@@ -26,7 +26,7 @@ chars-of charsOf false a p is = ap charsOf is
 module _ {contents bodies : List ℕ} {row : ℕ} {r : TextAnswer} (texts : Texts contents bodies row r) where
   -- The number by the drawing of the table.
   number-is : (d : Drawing) → IsTable contents bodies d → r .number ≡ textAsked row d .answer .number
-  number-is d t = ap (λ (g : TextGiven). g .answer .number) (opened (texts .decides) .table d t)
+  number-is d t = ap (λ (g : TextGiven). g .answer .number) (opened (texts .decides) .one d t)
 
   -- ---- a refusal
 
@@ -43,9 +43,9 @@ module _ {contents bodies : List ℕ} {row : ℕ} {r : TextAnswer} (texts : Text
   shows-none gone =
       record {
         decides =
-            by-table (record {
-              table = λ d t. no-chars (startIn (contentsOf d) row) (d .version) (getElem? (objectsOf d) row) (λ on. gone (number-is d t ∙ on));
-              no-table = λ none-has. refl;
+            by-drawing (record {
+              one = λ d t. no-chars (startIn (contentsOf d) row) (d .version) (getElem? (objectsOf d) row) (λ on. gone (number-is d t ∙ on));
+              none = λ none-has. refl;
               one-or-other = opened (texts .decides) .one-or-other;
             });
       }
@@ -78,7 +78,7 @@ module _ {contents bodies : List ℕ} {row : ℕ} {r : TextAnswer} (texts : Text
       placed = texts .places d (here .object) (here .text) table (here .object-is) (here .text-is)
 
     no-table : {A : Type 0} → ((d : Drawing) → IsTable contents bodies d → ⊥) → A
-    no-table none-has = absurd (omega (arith, sym on ∙ ap (λ (g : TextGiven). g .answer .number) (opened (texts .decides) .no-table none-has)))
+    no-table none-has = absurd (omega (arith, sym on ∙ ap (λ (g : TextGiven). g .answer .number) (opened (texts .decides) .none none-has)))
 
     -- Both runs lie within the bodies.
     pub runs-inside : (r .alternative .start + r .alternative .length ≤ length bodies) × (r .text .start + r .text .length ≤ length bodies)
@@ -94,12 +94,12 @@ module _ {contents bodies : List ℕ} {row : ℕ} {r : TextAnswer} (texts : Text
     shows-chars is =
         record {
           decides =
-              by-table (record {
-                table = λ d t.
+              by-drawing (record {
+                one = λ d t.
                     is
                     ∙ ap₂ (λ a p. shown (length a) a p) (placed d t .0 .chars-are) (placed d t .1 .chars-are)
                     ∙ sym (ap (λ x. charsShown (partAt (leafPart wording) x)) (here d t .object-is) ∙ ap (λ x. charsShown (orRefusal 7 x)) (here d t .text-is));
-                no-table = no-table;
+                none = no-table;
                 one-or-other = opened (texts .decides) .one-or-other;
               });
         }

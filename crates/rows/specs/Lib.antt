@@ -1,4 +1,5 @@
 -- The words of rows.
 pub mod Rows
+pub mod Cells
 pub mod RowLaws
 pub mod Stores

@@ -13,6 +13,7 @@ mod hash;
 mod list;
 mod questions;
 mod read;
+mod sheet;
 mod table;
 
 fn main() {
@@ -65,7 +66,10 @@ fn put_read(buffer: &mut Buffer, used: usize, name: &[u8], fd: i32, room: &mut [
 // The calls that take bytes; all others take a table.
 fn put_call(buffer: &mut Buffer, used: usize, call: &[u8], file: &[u8]) -> usize {
     if same(call, b"read") {
-        return read::put_groups(buffer, used, file);
+        return read::put_groups(buffer, used, false, file);
+    }
+    if same(call, b"sheet_read") {
+        return read::put_groups(buffer, used, true, file);
     }
     let mut words = [0u32; 104000];
     let count = data::get_words(file, &mut words);
@@ -99,6 +103,9 @@ fn put_table_call(
 ) -> usize {
     if same(call, b"table") {
         return table::put_groups(buffer, used, contents, bodies);
+    }
+    if same(call, b"sheet_write") {
+        return sheet::put_groups(buffer, used, contents, bodies);
     }
     if same(call, b"list") {
         return list::put_groups(buffer, used, contents, bodies, rest);

@@ -1,4 +1,4 @@
-// Cases of `read`: a data file is a drawing's file.
+// Cases of `read`, whose data file is a drawing's file, and of `sheet_read`, whose data file is a sheet.
 ghost use Prim.Native.Nat.{_≤_};
 use crate::data::least;
 use crate::group::FILL;
@@ -7,28 +7,36 @@ use crate::group::one_less;
 use crate::group::put_answer;
 use crate::group::put_hash;
 use crate::hash;
+use drawing::Answer;
 use text_out::Buffer;
 
-// The call with large rooms; and for an accepted file with rooms for its table and a part of a row more, a row short and a word short.
-pub fn put_groups(buffer: &mut Buffer, used: usize, file: &[u8]) -> usize
+// The call with large rooms; and for what is accepted with rooms for its table and a part of a row more, a row short and a word short.
+pub fn put_groups(buffer: &mut Buffer, used: usize, sheet: bool, file: &[u8]) -> usize
     ensures { λ r. ⌜ r ≤ 4096 ⌝ }
 {
-    let first = put_group(buffer, used, file, 37452, 65536);
+    let first = put_group(buffer, used, sheet, file, 37452, 65536);
     let answer = first.answer;
     if answer.number != 0 {
         return first.used;
     }
-    put_tight_groups(buffer, first.used, file, answer.rows, answer.words)
+    put_tight_groups(buffer, first.used, sheet, file, answer.rows, answer.words)
 }
 
-fn put_tight_groups(buffer: &mut Buffer, used: usize, file: &[u8], rows: u32, words: u32) -> usize
+fn put_tight_groups(
+    buffer: &mut Buffer,
+    used: usize,
+    sheet: bool,
+    file: &[u8],
+    rows: u32,
+    words: u32,
+) -> usize
     ensures { λ r. ⌜ r ≤ 4096 ⌝ }
 {
     let contents = 4 * rows as usize;
     let bodies = words as usize;
-    let over = put_group(buffer, used, file, contents + 3, bodies);
-    let short = put_group(buffer, over.used, file, one_less(contents), bodies);
-    let last = put_group(buffer, short.used, file, contents, one_less(bodies));
+    let over = put_group(buffer, used, sheet, file, contents + 3, bodies);
+    let short = put_group(buffer, over.used, sheet, file, one_less(contents), bodies);
+    let last = put_group(buffer, short.used, sheet, file, contents, one_less(bodies));
     last.used
 }
 
@@ -36,6 +44,7 @@ fn put_tight_groups(buffer: &mut Buffer, used: usize, file: &[u8], rows: u32, wo
 fn put_group(
     buffer: &mut Buffer,
     used: usize,
+    sheet: bool,
     file: &[u8],
     contents_room: usize,
     bodies_room: usize,
@@ -49,22 +58,31 @@ fn put_group(
     put_call(
         buffer,
         used,
+        sheet,
         file,
         &mut contents[0..contents_end],
         &mut bodies[0..bodies_end],
     )
 }
 
+fn called(sheet: bool, file: &[u8], contents: &mut [u32], bodies: &mut [u32]) -> Answer {
+    if sheet {
+        return jdr::sheet_read(file, contents, bodies);
+    }
+    jdr::read(file, contents, bodies)
+}
+
 fn put_call(
     buffer: &mut Buffer,
     used: usize,
+    sheet: bool,
     file: &[u8],
     contents: &mut [u32],
     bodies: &mut [u32],
 ) -> Group
     ensures { λ r. ⌜ r .used ≤ 4096 ⌝ }
 {
-    let answer = jdr::read(file, contents, bodies);
+    let answer = called(sheet, file, contents, bodies);
     let used = put_answer(buffer, used, answer);
     let used = put_hash(buffer, used, hash::of_words(contents));
     let used = put_hash(buffer, used, hash::of_words(bodies));

@@ -23,7 +23,7 @@ use Rattle.laws.specs.TableLaws.{drawing-of-table}
 use Rattle.laws.specs.TableFileLaws.{refused-table}
 use Rattle.ways.specs.Passes.{refused}
 use Rattle.rows.specs.declared.walked.Walked.{Walked}
-use Rattle.table.specs.FileWalks.{Whole, TableComes, WalksTable}
+use Rattle.walks.specs.FileWalks.{Whole, TableComes, WalksTable}
 
 module _ (cs ws : List ℕ) (below : Below (2 ^ 32) ws) where
   pub long-refused : (4 * lengthLimit < length cs) ⊎ (lengthLimit < length ws) → {r : Answer} → r ≡ tableRefused → Checks cs ws r
@@ -96,8 +96,8 @@ module _ (cs ws : List ℕ) (below : Below (2 ^ 32) ws) where
       length-is : a .offset ≡ length (fileOf (drawn zero-is .d))
       length-is = ap (λ x. x .offset) (drawn zero-is .answer-is)
 
-      by-room : (file : List ℕ) (n : ℕ) → unless (leb (length (fileOf (drawn zero-is .d))) (length file)) 17 ≡ n → written n (drawn zero-is .d) file ≡ writeOutput cs ws file
-      by-room file n is = ap (λ k. written k (drawn zero-is .d) file) (sym is) ∙ sym (ap (λ o. writeFrom o file) (drawn zero-is .is))
+      by-room : (file : List ℕ) (n : ℕ) → unless (leb (length (fileOf (drawn zero-is .d))) (length file)) 17 ≡ n → written n (fileOf (drawn zero-is .d)) (drawn zero-is .d) file ≡ writeOutput cs ws file
+      by-room file n is = ap (λ k. written k (fileOf (drawn zero-is .d)) (drawn zero-is .d) file) (sym is) ∙ sym (ap (λ o. writeFrom o file) (drawn zero-is .is))
 
       pub write-short : (file : List ℕ) → length file < a .offset → Writes cs ws file (answer 17 (a .offset) 0 0) file
       write-short file short =

@@ -1,11 +1,11 @@
 // Checking any two runs of words, and writing the file of a table.
-use crate::file::walk_table;
 use drawing::Answer;
 use drawing::limits::LENGTH_LIMIT;
 use drawing::numbers::ACCEPTED;
 use drawing::numbers::NO_TABLE;
 use drawing::numbers::OUTPUT_TOO_SHORT;
 use drawing::row::ROW_WIDTH;
+use table_walk::file::walk_table;
 use ways::REFUSED;
 ghost use mathlib.Core.Path.{_≡_};
 ghost use Rattle.drawing.specs.Answers.{tableRefused};

@@ -1,5 +1,2 @@
-// Walking over a table: its rows and its bodies side by side, each field judged, and the file's bytes written where they fit. A walk into no memory
-// only checks the table.
+// The calls that check a table and write its file.
 pub mod answers;
-pub mod file;
-pub mod objects;

@@ -9,6 +9,7 @@ pub mod StepLaws
 pub mod FieldPassLaws
 pub mod Runs
 pub mod RunLaws
+pub mod TableWay
 pub mod Moves
 pub mod NowhereLaws
 pub mod PaintLaws

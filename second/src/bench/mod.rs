@@ -1,5 +1,6 @@
 //! Measures the library through its C interface beside this program's own calls, on seeded plans: megabytes of file a second, and
-//! instructions for each byte of file. The table is printed as Markdown.
+//! instructions for each byte of file, of a sheet's calls too, so that a plan's sheet and its file compare. The table is printed as
+//! Markdown.
 
 mod plans;
 pub mod stack;

@@ -5,8 +5,9 @@
 
 use super::work::{given, lent};
 use crate::library;
-use second::generate::special::{nested, plain_drawing, sampler, with_chains};
 use second::generate::chars;
+use second::generate::sheets::sheet;
+use second::generate::special::{nested, plain_drawing, sampler, with_chains};
 use second::model::Object;
 use second::table::{self, Table};
 use second::version::{Version, DEEPEST_GROUP};
@@ -67,6 +68,7 @@ fn depth(call: impl FnOnce() + Send) -> usize {
 struct Plan {
     file: Vec<u8>,
     table: Table,
+    sheet: Vec<u8>,
 }
 
 /// Plans whose leaves lie as deep as they may.
@@ -78,7 +80,7 @@ fn deepest(version: Version) -> Vec<Plan> {
     let flat = leaves.into_iter().filter(|leaf| !matches!(leaf, Object::Group(_)));
     let plan = |leaf| {
         let drawing = plain_drawing(version, vec![nested(leaf, DEEPEST_GROUP - 1)]);
-        Plan { file: write::file(&drawing), table: table::of(&drawing) }
+        Plan { file: write::file(&drawing), table: table::of(&drawing), sheet: sheet(&drawing) }
     };
     flat.map(plan).collect()
 }
@@ -86,16 +88,21 @@ fn deepest(version: Version) -> Vec<Plan> {
 type Use = (&'static str, fn(&Plan));
 
 /// Each call, and the ways to make it that matter.
-const CALLS: [Use; 7] = [
+const CALLS: [Use; 9] = [
     ("jdr_read", |plan| {
-        let (mut contents, mut bodies) = (vec![0; plan.table.contents.len()], vec![0; plan.table.bodies.len()]);
+        let (mut contents, mut bodies) =
+            (vec![0; plan.table.contents.len()], vec![0; plan.table.bodies.len()]);
         black_box(library::read(given(&plan.file), lent(&mut contents), lent(&mut bodies)));
     }),
     ("jdr_check", |plan| {
         black_box(library::check(given(&plan.table.contents), given(&plan.table.bodies)));
     }),
     ("jdr_box", |plan| {
-        black_box(library::extent(given(&plan.table.contents), given(&plan.table.bodies), plan.table.rows() - 1));
+        black_box(library::extent(
+            given(&plan.table.contents),
+            given(&plan.table.bodies),
+            plan.table.rows() - 1,
+        ));
     }),
     ("jdr_write", |plan| {
         let mut file = vec![0; plan.file.len()];
@@ -104,16 +111,48 @@ const CALLS: [Use; 7] = [
     ("jdr_list", |plan| {
         let mut entries = vec![0; plan.table.rows() as usize];
         let label = chars("machine");
-        black_box(library::list(given(&plan.table.contents), given(&plan.table.bodies), given(&label), lent(&mut entries)));
-        black_box(library::list(given(&plan.table.contents), given(&plan.table.bodies), given(&[]), lent(&mut entries)));
+        black_box(library::list(
+            given(&plan.table.contents),
+            given(&plan.table.bodies),
+            given(&label),
+            lent(&mut entries),
+        ));
+        black_box(library::list(
+            given(&plan.table.contents),
+            given(&plan.table.bodies),
+            given(&[]),
+            lent(&mut entries),
+        ));
     }),
     ("jdr_paint", |plan| {
         for which in 0..3 {
-            black_box(library::paint(given(&plan.table.contents), given(&plan.table.bodies), plan.table.rows() - 1, which));
+            black_box(library::paint(
+                given(&plan.table.contents),
+                given(&plan.table.bodies),
+                plan.table.rows() - 1,
+                which,
+            ));
         }
     }),
     ("jdr_text", |plan| {
-        black_box(library::text(given(&plan.table.contents), given(&plan.table.bodies), plan.table.rows() - 1));
+        black_box(library::text(
+            given(&plan.table.contents),
+            given(&plan.table.bodies),
+            plan.table.rows() - 1,
+        ));
+    }),
+    ("jdr_sheet_write", |plan| {
+        let mut sheet = vec![0; plan.sheet.len()];
+        black_box(library::sheet_write(
+            given(&plan.table.contents),
+            given(&plan.table.bodies),
+            lent(&mut sheet),
+        ));
+    }),
+    ("jdr_sheet_read", |plan| {
+        let (mut contents, mut bodies) =
+            (vec![0; plan.table.contents.len()], vec![0; plan.table.bodies.len()]);
+        black_box(library::sheet_read(given(&plan.sheet), lent(&mut contents), lent(&mut bodies)));
     }),
 ];
 

@@ -4,9 +4,10 @@ use super::plans::OUTLINE;
 use crate::library;
 use second::answer::Answer;
 use second::generate::chars;
+use second::generate::sheets::sheet as sheet_of;
 use second::model::{Chars, Drawing};
 use second::table::{self, Table};
-use second::{check, direct, extent, list, write};
+use second::{check, direct, extent, list, sheet, write};
 use std::hint::black_box;
 
 #[derive(Clone, Copy)]
@@ -20,17 +21,30 @@ pub enum Call {
     List,
     /// With the empty label, which all rows have below 1.2.
     ListEmpty,
+    SheetRead,
+    SheetWrite,
 }
 
 impl Call {
-    const ALL: [Call; 6] = [Call::Read, Call::Check, Call::Box, Call::Write, Call::List, Call::ListEmpty];
+    const ALL: [Call; 8] = [
+        Call::Read,
+        Call::SheetRead,
+        Call::Check,
+        Call::Box,
+        Call::Write,
+        Call::SheetWrite,
+        Call::List,
+        Call::ListEmpty,
+    ];
 
-    /// Those that the linked library has.
+    /// Those that the linked library has; a sheet's call stands beside that of the file.
     pub fn linked() -> impl Iterator<Item = Call> {
         Call::ALL.into_iter().filter(|call| match call {
             Call::Box => cfg!(feature = "box"),
             Call::Read | Call::Check | Call::Write => true,
             Call::List | Call::ListEmpty => cfg!(feature = "list"),
+            Call::SheetRead => cfg!(feature = "sheet_read"),
+            Call::SheetWrite => cfg!(feature = "sheet_write"),
         })
     }
 
@@ -42,6 +56,8 @@ impl Call {
             Call::Write => "write",
             Call::List => "list",
             Call::ListEmpty => "list-empty",
+            Call::SheetRead => "sheet-read",
+            Call::SheetWrite => "sheet-write",
         }
     }
 
@@ -84,6 +100,8 @@ pub struct Plan {
     pub output: Vec<u8>,
     label: Chars,
     entries: Vec<u32>,
+    sheet: Vec<u8>,
+    sheet_output: Vec<u8>,
 }
 
 pub struct Work {
@@ -104,7 +122,9 @@ impl Plan {
         let (contents, bodies) = (vec![0; table.contents.len()], vec![0; table.bodies.len()]);
         let output = vec![0; file.len()];
         let (label, entries) = (frequent_label(drawing), vec![0; table.rows() as usize]);
-        Plan { file, table, contents, bodies, output, label, entries }
+        let sheet = sheet_of(drawing);
+        let sheet_output = vec![0; sheet.len()];
+        Plan { file, table, contents, bodies, output, label, entries, sheet, sheet_output }
     }
 
     fn read(&mut self, who: Who) -> Answer {
@@ -151,12 +171,36 @@ impl Plan {
         let (contents, bodies, entries) = (&self.table.contents, &self.table.bodies, &mut self.entries);
         let label = if empty { &[] } else { &self.label[..] };
         match who {
-            Who::Library => library::list(given(contents), given(bodies), given(label), lent(entries))
-                .expect("only measured where it is linked"),
+            Who::Library => {
+                linked(library::list(given(contents), given(bodies), given(label), lent(entries)))
+            }
             Who::Direct => direct::list(contents, bodies, label, entries),
             Who::Plain => list::call(check::good(contents, bodies).as_ref(), label, entries),
         }
     }
+
+    fn sheet_read(&mut self, who: Who) -> Answer {
+        let (sheet, contents, bodies) = (&self.sheet, &mut self.contents, &mut self.bodies);
+        match who {
+            Who::Library => linked(library::sheet_read(given(sheet), lent(contents), lent(bodies))),
+            Who::Direct => direct::sheet_read(sheet, contents, bodies),
+            Who::Plain => sheet::read_call(sheet, contents, bodies),
+        }
+    }
+
+    fn sheet_write(&mut self, who: Who) -> Answer {
+        let (contents, bodies, sheet) = (&self.table.contents, &self.table.bodies, &mut self.sheet_output);
+        match who {
+            Who::Library => linked(library::sheet_write(given(contents), given(bodies), lent(sheet))),
+            Who::Direct => direct::sheet_write(contents, bodies, sheet),
+            Who::Plain => sheet::write_call(check::good(contents, bodies).as_ref(), sheet),
+        }
+    }
+}
+
+/// A call of the library that is measured only where it is linked.
+fn linked(answer: Option<Answer>) -> Answer {
+    answer.expect("a call that is linked")
 }
 
 /// The label that most rows have, the empty one left out; below 1.2, where none is there, one that is never found.
@@ -187,6 +231,8 @@ impl Work {
                 Call::Write => plan.write(who),
                 Call::List => plan.list(who, false),
                 Call::ListEmpty => plan.list(who, true),
+                Call::SheetRead => plan.sheet_read(who),
+                Call::SheetWrite => plan.sheet_write(who),
             };
             assert_eq!(black_box(answer).number, 0, "{} of {}", call.name(), who.name());
         }

@@ -2,13 +2,13 @@
 
 use super::report::{Call, Report};
 use super::runs::Run;
-use crate::library;
+use crate::library::{self, Given, Lent};
 use second::answer::Answer;
 use second::check::{self, Good};
 use second::make::table_data;
 use second::random::Random;
 use second::table::{self, Table};
-use second::{ask, extent, list, write};
+use second::{ask, extent, list, sheet, write};
 
 /// Compares calls and keeps count.
 pub struct Comparer {
@@ -47,6 +47,14 @@ impl Asked {
     }
 }
 
+/// A call of either side that takes bytes and fills a table; None where the library has it not.
+type OurReader = fn(&[u8], &mut [u32], &mut [u32]) -> Answer;
+type TheirReader = fn(Given<u8>, Lent<u32>, Lent<u32>) -> Option<Answer>;
+
+/// A call of either side that takes a table and writes bytes.
+type OurWriter = fn(Option<&Good>, &mut [u8]) -> Answer;
+type TheirWriter = fn(Given<u32>, Given<u32>, Lent<u8>) -> Option<Answer>;
+
 /// The four numbers of an answer.
 fn words(answer: Answer) -> Vec<u32> {
     vec![answer.number, answer.offset, answer.rows, answer.words]
@@ -60,22 +68,43 @@ impl Comparer {
 
     /// Rooms in words. Gives this program's answer.
     pub fn read(&mut self, file: &[u8], contents_room: usize, bodies_room: usize) -> Answer {
+        let theirs = |file, contents, bodies| Some(library::read(file, contents, bodies));
+        self.read_by(Call::Read, table::read_call, theirs, file, [contents_room, bodies_room])
+    }
+
+    /// Rooms in words. Gives this program's answer.
+    pub fn sheet_read(&mut self, bytes: &[u8], contents_room: usize, bodies_room: usize) -> Answer {
+        let rooms = [contents_room, bodies_room];
+        self.read_by(Call::SheetRead, sheet::read_call, library::sheet_read, bytes, rooms)
+    }
+
+    /// A call that takes bytes and fills a table.
+    fn read_by(
+        &mut self,
+        call: Call,
+        ours: OurReader,
+        theirs: TheirReader,
+        bytes: &[u8],
+        rooms: [usize; 2],
+    ) -> Answer {
         let fill = self.fill();
         let random = &mut self.random;
-        let given = Run::holding(random, file, fill as u8);
+        let given = Run::holding(random, bytes, fill as u8);
         let given_before = given.clone();
-        let mut contents = Run::filled(random, contents_room, fill);
-        let mut bodies = Run::filled(random, bodies_room, !fill);
+        let mut contents = Run::filled(random, rooms[0], fill);
+        let mut bodies = Run::filled(random, rooms[1], !fill);
         let (mut our_contents, mut our_bodies) = (contents.clone(), bodies.clone());
-        let ours = table::read_call(file, our_contents.inner_mut(), our_bodies.inner_mut());
-        let theirs = library::read(given.given(), contents.lent(), bodies.lent());
+        let ours = ours(bytes, our_contents.inner_mut(), our_bodies.inner_mut());
+        let Some(theirs) = theirs(given.given(), contents.lent(), bodies.lent()) else {
+            return ours;
+        };
         let memory = vec![
-            ("file", given.first_difference(&given_before)),
+            ("bytes", given.first_difference(&given_before)),
             ("contents", contents.first_difference(&our_contents)),
             ("bodies", bodies.first_difference(&our_bodies)),
         ];
-        let detail = || format!("rooms of {contents_room} and {bodies_room} words");
-        self.report.compared(Call::Read, &words(ours), &words(theirs), memory, detail, || file.to_vec());
+        let detail = || format!("rooms of {} and {} words", rooms[0], rooms[1]);
+        self.report.compared(call, &words(ours), &words(theirs), memory, detail, || bytes.to_vec());
         ours
     }
 
@@ -89,16 +118,36 @@ impl Comparer {
 
     /// Room in bytes. Gives this program's answer.
     pub fn write(&mut self, asked: &mut Asked, room: usize) -> Answer {
+        let theirs = |contents, bodies, output| Some(library::write(contents, bodies, output));
+        self.write_by(Call::Write, write::call, theirs, asked, room)
+    }
+
+    /// Room in bytes. Gives this program's answer.
+    pub fn sheet_write(&mut self, asked: &mut Asked, room: usize) -> Answer {
+        self.write_by(Call::SheetWrite, sheet::write_call, library::sheet_write, asked, room)
+    }
+
+    /// A call that takes a table and writes bytes.
+    fn write_by(
+        &mut self,
+        call: Call,
+        ours: OurWriter,
+        theirs: TheirWriter,
+        asked: &mut Asked,
+        room: usize,
+    ) -> Answer {
         let fill = self.fill() as u8;
         let mut output = Run::filled(&mut self.random, room, fill);
         let mut our_output = output.clone();
-        let ours = write::call(asked.good.as_ref(), our_output.inner_mut());
-        let theirs = library::write(asked.contents.given(), asked.bodies.given(), output.lent());
+        let ours = ours(asked.good.as_ref(), our_output.inner_mut());
+        let Some(theirs) = theirs(asked.contents.given(), asked.bodies.given(), output.lent()) else {
+            return ours;
+        };
         let mut memory = asked.changed();
         memory.push(("output", output.first_difference(&our_output)));
         let detail = || format!("room of {room} bytes");
         let data = || table_data(&asked.table, []);
-        self.report.compared(Call::Write, &words(ours), &words(theirs), memory, detail, data);
+        self.report.compared(call, &words(ours), &words(theirs), memory, detail, data);
         ours
     }
 

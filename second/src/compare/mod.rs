@@ -5,6 +5,7 @@ mod calls;
 mod report;
 mod rounds;
 mod runs;
+mod sheets;
 
 use calls::Comparer;
 use report::Report;

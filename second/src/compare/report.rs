@@ -13,11 +13,22 @@ pub enum Call {
     Box,
     Paint,
     Text,
+    SheetWrite,
+    SheetRead,
 }
 
 impl Call {
-    const ALL: [Call; 7] =
-        [Call::Read, Call::Check, Call::Write, Call::List, Call::Box, Call::Paint, Call::Text];
+    const ALL: [Call; 9] = [
+        Call::Read,
+        Call::Check,
+        Call::Write,
+        Call::List,
+        Call::Box,
+        Call::Paint,
+        Call::Text,
+        Call::SheetWrite,
+        Call::SheetRead,
+    ];
 
     fn name(self) -> &'static str {
         match self {
@@ -28,6 +39,8 @@ impl Call {
             Call::Box => "box",
             Call::Paint => "paint",
             Call::Text => "text",
+            Call::SheetWrite => "sheet_write",
+            Call::SheetRead => "sheet_read",
         }
     }
 }
@@ -97,7 +110,7 @@ impl Report {
             let numbers = self.counts.iter().filter(|((of, _), _)| *of == call);
             let each: Vec<String> =
                 numbers.map(|((_, number), count)| format!("{number}: {count}")).collect();
-            println!("{:5} {:10}   {}", call.name(), self.count(call), each.join(", "));
+            println!("{:11} {:10}   {}", call.name(), self.count(call), each.join(", "));
         }
         let drawings: Vec<String> =
             self.drawings.iter().map(|(what, count)| format!("{what}: {count}")).collect();

@@ -2,6 +2,7 @@
 
 use super::boxes;
 use super::calls::{Asked, Comparer};
+use super::sheets;
 use second::answer::Answer;
 use second::damage::fields::{of_bodies, of_file, Field};
 use second::damage::{files, tables};
@@ -42,6 +43,7 @@ pub fn round(comparer: &mut Comparer, seed: u64) {
     read_damaged(comparer, &round);
     ask_about(comparer, &round);
     ask_damaged(comparer, &round);
+    sheets::round(comparer, &round.table, &round.body_fields);
 }
 
 /// Counts the drawing by its version, if it has a text along a path, and by the depths at which it has empty groups.
@@ -112,25 +114,37 @@ fn some_drawing(random: &mut Random) -> Drawing {
 }
 
 /// How often to do what costs time in step with the size.
-fn times(size: usize, small: usize) -> usize {
+pub fn times(size: usize, small: usize) -> usize {
     (small * 400 / (400 + size)).max(1)
 }
 
-/// Exact rooms, one short, larger, none.
-fn read_in_rooms(comparer: &mut Comparer, file: &[u8], table: &Table) {
+/// Rooms for contents and bodies: exact ones, one short, larger, none.
+pub fn table_rooms(random: &mut Random, table: &Table) -> [(usize, usize); 9] {
     let (contents, bodies) = (table.contents.len(), table.bodies.len());
-    let more = comparer.random.within(1, 9);
-    comparer.read(file, contents, bodies);
-    comparer.read(file, contents + more, bodies + more);
-    comparer.read(file, contents - 1, bodies);
-    comparer.read(file, contents, bodies - 1);
-    comparer.read(file, contents - 1, bodies - 1);
-    comparer.read(file, 0, bodies);
-    comparer.read(file, contents, 0);
-    comparer.read(file, 0, 0);
-    let (some_contents, some_bodies) =
-        (comparer.random.within(0, contents), comparer.random.within(0, bodies));
-    comparer.read(file, some_contents, some_bodies);
+    let more = random.within(1, 9);
+    let some = (random.within(0, contents), random.within(0, bodies));
+    [
+        (contents, bodies),
+        (contents + more, bodies + more),
+        (contents - 1, bodies),
+        (contents, bodies - 1),
+        (contents - 1, bodies - 1),
+        (0, bodies),
+        (contents, 0),
+        (0, 0),
+        some,
+    ]
+}
+
+/// Rooms for so many bytes.
+pub fn byte_rooms(random: &mut Random, length: usize) -> [usize; 5] {
+    [length, length - 1, length + random.within(1, 40), 0, random.within(0, length)]
+}
+
+fn read_in_rooms(comparer: &mut Comparer, file: &[u8], table: &Table) {
+    for (contents, bodies) in table_rooms(&mut comparer.random, table) {
+        comparer.read(file, contents, bodies);
+    }
 }
 
 fn read_damaged(comparer: &mut Comparer, round: &Round) {
@@ -201,9 +215,7 @@ fn ask_about(comparer: &mut Comparer, round: &Round) {
 }
 
 fn write_in_rooms(comparer: &mut Comparer, asked: &mut Asked, length: usize) {
-    let more = comparer.random.within(1, 40);
-    let some = comparer.random.within(0, length);
-    for room in [length, length - 1, length + more, 0, some] {
+    for room in byte_rooms(&mut comparer.random, length) {
         comparer.write(asked, room);
     }
 }

@@ -1,6 +1,7 @@
-//! Damage to files and tables: single faults at known fields, and changes of every other sort.
+//! Damage to files, tables and sheets: single faults at known fields, and changes of every other sort.
 
 pub mod faults;
 pub mod fields;
 pub mod files;
+pub mod sheets;
 pub mod tables;

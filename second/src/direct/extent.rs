@@ -1,6 +1,7 @@
 //! The box question. The walk that judges the table notes where the row's outline stands, so that none has to look for it afterwards.
 
 use super::from_table::{self, Bytes, Counted, FromTable};
+use super::source::Runs;
 use crate::answer::BoxAnswer;
 use crate::table::ROW;
 use crate::version::LONGEST_FILE;
@@ -18,15 +19,15 @@ struct Found {
     outline: Option<Place>,
 }
 
-impl Bytes for Found {
+impl<'a> Bytes<Runs<'a>> for Found {
     #[inline(always)]
     fn field<const WIDTH: usize>(&mut self, bits: u32) {
-        self.counted.field::<WIDTH>(bits);
+        Bytes::<Runs>::field::<WIDTH>(&mut self.counted, bits);
     }
 
     #[inline(always)]
-    fn run<const WIDTH: usize>(&mut self, words: &[u32]) -> bool {
-        self.counted.run::<WIDTH>(words)
+    fn run<const WIDTH: usize>(&mut self, words: &'a [u32]) -> bool {
+        Bytes::<Runs>::run::<WIDTH>(&mut self.counted, words)
     }
 
     #[inline(always)]
@@ -91,7 +92,7 @@ fn around(bodies: &[u32], outline: &Place) -> Fold {
 pub fn extent(contents: &[u32], bodies: &[u32], row: u32) -> BoxAnswer {
     let row = row as usize;
     let found = Found { counted: Counted::default(), row, outline: None };
-    let walked = from_table::walk(FromTable::new(contents, bodies, found));
+    let walked = from_table::walk(FromTable::new(Runs { contents, bodies }, found));
     let Some(found) = walked.filter(|found| found.counted.bytes <= LONGEST_FILE) else {
         return BoxAnswer::refused(16);
     };

@@ -1,16 +1,16 @@
-//! The walk over a table, into nothing or into the bytes of a file. Inlined by order, as the walk over a file is.
+//! The walk over a table, wherever its words lie, into nothing or into the bytes of a file. Inlined by order, as the walk over a file is.
 
+use super::source::{Run, Runs, Source};
 use super::walk::{self, kind_fault, Opened, Walk, GROUP, LAST_MINOR};
-use crate::table::ROW;
 
-/// Where bytes go.
-pub trait Bytes {
+/// Where the bytes of a table go.
+pub trait Bytes<S: Source> {
     fn field<const WIDTH: usize>(&mut self, bits: u32);
     /// The bytes of the words of a run; words of width 8 are halves of doubles. False where a word is no value of its field.
-    fn run<const WIDTH: usize>(&mut self, words: &[u32]) -> bool;
-    /// An object's description is so many of these words, and ends before the one at `end`. They are taken only by who wants them.
+    fn run<const WIDTH: usize>(&mut self, words: S::Run) -> bool;
+    /// An object's description is so many words of the table, and ends before the one at `end`. They are taken only by who wants them.
     #[inline(always)]
-    fn described(&mut self, _words: &[u32], _end: usize, _length: usize) {}
+    fn described(&mut self, _table: &S, _end: usize, _length: usize) {}
     /// The points of this row's outline begin with the word at `at`; it has so many segments.
     #[inline(always)]
     fn outlined(&mut self, _row: usize, _at: usize, _segments: u32) {}
@@ -21,16 +21,16 @@ pub struct Counted {
     pub bytes: usize,
 }
 
-impl Bytes for Counted {
+impl<S: Source> Bytes<S> for Counted {
     #[inline(always)]
     fn field<const WIDTH: usize>(&mut self, _bits: u32) {
         self.bytes += WIDTH;
     }
 
     #[inline(always)]
-    fn run<const WIDTH: usize>(&mut self, words: &[u32]) -> bool {
-        self.bytes += words.len() * WIDTH.min(4);
-        WIDTH != 2 || words.iter().fold(0, |all, word| all | word) <= 0xFFFF
+    fn run<const WIDTH: usize>(&mut self, words: S::Run) -> bool {
+        self.bytes += words.words() * WIDTH.min(4);
+        WIDTH != 2 || words.bits() <= 0xFFFF
     }
 }
 
@@ -45,7 +45,7 @@ impl<'a> Stored<'a> {
     }
 }
 
-impl Bytes for Stored<'_> {
+impl Bytes<Runs<'_>> for Stored<'_> {
     #[inline(always)]
     fn field<const WIDTH: usize>(&mut self, bits: u32) {
         let bytes = bits.to_be_bytes();
@@ -71,9 +71,8 @@ impl Bytes for Stored<'_> {
     }
 }
 
-pub struct FromTable<'a, B> {
-    contents: &'a [u32],
-    bodies: &'a [u32],
+pub struct FromTable<S, B> {
+    table: S,
     /// The next row, and the next word.
     row: usize,
     at: usize,
@@ -83,19 +82,19 @@ pub struct FromTable<'a, B> {
 /// No acceptable file gives this table.
 pub struct NoTable;
 
-impl<'a, B: Bytes> FromTable<'a, B> {
-    pub fn new(contents: &'a [u32], bodies: &'a [u32], out: B) -> FromTable<'a, B> {
-        FromTable { contents, bodies, row: 0, at: 0, out }
+impl<S: Source, B: Bytes<S>> FromTable<S, B> {
+    pub fn new(table: S, out: B) -> FromTable<S, B> {
+        FromTable { table, row: 0, at: 0, out }
     }
 
     /// A walk that begins with this row, whose body starts here.
-    pub fn at_row(self, row: usize, start: usize) -> FromTable<'a, B> {
+    pub fn at_row(self, row: usize, start: usize) -> FromTable<S, B> {
         FromTable { row, at: start, ..self }
     }
 
     #[inline(always)]
     fn word(&mut self) -> Result<u32, NoTable> {
-        let word = *self.bodies.get(self.at).ok_or(NoTable)?;
+        let word = self.table.word(self.at).ok_or(NoTable)?;
         self.at += 1;
         Ok(word)
     }
@@ -109,7 +108,7 @@ fn only_if(good: bool) -> Result<(), NoTable> {
     }
 }
 
-impl<B: Bytes> Walk for FromTable<'_, B> {
+impl<S: Source, B: Bytes<S>> Walk for FromTable<S, B> {
     type Stop = NoTable;
 
     #[inline(always)]
@@ -133,7 +132,7 @@ impl<B: Bytes> Walk for FromTable<'_, B> {
     #[inline(always)]
     fn run<const WIDTH: usize>(&mut self, count: usize) -> Result<(), NoTable> {
         let words = if WIDTH == 8 { 2 * count } else { count };
-        let run = self.bodies[self.at..].get(..words).ok_or(NoTable)?;
+        let run = self.table.run(self.at, words).ok_or(NoTable)?;
         self.at += words;
         only_if(self.out.run::<WIDTH>(run))
     }
@@ -141,8 +140,7 @@ impl<B: Bytes> Walk for FromTable<'_, B> {
     #[inline(always)]
     fn open(&mut self, minor: u32, parent: usize, depth: u32) -> Result<Opened, NoTable> {
         let row = self.row;
-        let words = self.contents.get(row * ROW..).and_then(|rest| rest.first_chunk::<ROW>());
-        let [kind, its_parent, start, _] = *words.ok_or(NoTable)?;
+        let [kind, its_parent, start, _] = self.table.row(row).ok_or(NoTable)?;
         only_if(kind_fault(kind, minor, depth) == 0 && its_parent as usize == parent)?;
         only_if(kind == GROUP || start as usize == self.at)?;
         self.row += 1;
@@ -152,7 +150,7 @@ impl<B: Bytes> Walk for FromTable<'_, B> {
 
     #[inline(always)]
     fn members(&mut self, opened: &Opened) -> Result<u32, NoTable> {
-        let n = *self.bodies.get(opened.start).ok_or(NoTable)?;
+        let n = self.table.word(opened.start).ok_or(NoTable)?;
         only_if(n.cast_signed() >= 0)?;
         self.out.field::<4>(n);
         Ok(n)
@@ -167,7 +165,7 @@ impl<B: Bytes> Walk for FromTable<'_, B> {
 
     #[inline(always)]
     fn described(&mut self, length: usize) {
-        self.out.described(self.bodies, self.at, length);
+        self.out.described(&self.table, self.at, length);
     }
 
     #[inline(always)]
@@ -178,19 +176,24 @@ impl<B: Bytes> Walk for FromTable<'_, B> {
 
     #[inline(always)]
     fn close(&mut self, opened: Opened, _parent: usize) -> Result<(), NoTable> {
-        only_if(self.contents[opened.row * ROW + 3] as usize == self.at - opened.start)
+        let length = self.table.length(opened.row).ok_or(NoTable)?;
+        only_if(length as usize == self.at - opened.start)
     }
 }
 
 /// An object of a table that is good, and all that it holds.
-pub fn walk_object<B: Bytes>(mut from: FromTable<B>, parent: usize, depth: u32) -> Option<B> {
-    let minor = *from.bodies.first()?;
+pub fn walk_object<S, B>(mut from: FromTable<S, B>, parent: usize, depth: u32) -> Option<B>
+where
+    S: Source,
+    B: Bytes<S>,
+{
+    let minor = from.table.word(0)?;
     walk::object(&mut from, minor, parent, depth).ok()?;
     Some(from.out)
 }
 
 /// The whole table.
-pub fn walk<B: Bytes>(mut from: FromTable<B>) -> Option<B> {
+pub fn walk<S: Source, B: Bytes<S>>(mut from: FromTable<S, B>) -> Option<B> {
     let minor = from.word().ok().filter(|minor| *minor <= u32::from(LAST_MINOR))?;
     for char in *b"JDR" {
         from.out.field::<2>(u32::from(char));
@@ -201,6 +204,5 @@ pub fn walk<B: Bytes>(mut from: FromTable<B>) -> Option<B> {
     }
     walk::settings(&mut from, minor).ok()?;
     walk::object(&mut from, minor, 0, 1).ok()?;
-    let all_used = from.row * ROW == from.contents.len() && from.at == from.bodies.len();
-    all_used.then_some(from.out)
+    from.table.has_exactly(from.row, from.at).then_some(from.out)
 }

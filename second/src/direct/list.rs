@@ -2,6 +2,7 @@
 //! then found row by row, without a second walk over what has another label.
 
 use super::from_table::{self, Bytes, Counted, FromTable};
+use super::source::Runs;
 use super::walk::GROUP;
 use crate::answer::Answer;
 use crate::table::ROW;
@@ -20,20 +21,20 @@ impl<'a> Matched<'a> {
     }
 }
 
-impl Bytes for Matched<'_> {
+impl<'a> Bytes<Runs<'a>> for Matched<'_> {
     #[inline(always)]
     fn field<const WIDTH: usize>(&mut self, bits: u32) {
-        self.counted.field::<WIDTH>(bits);
+        Bytes::<Runs>::field::<WIDTH>(&mut self.counted, bits);
     }
 
     #[inline(always)]
-    fn run<const WIDTH: usize>(&mut self, words: &[u32]) -> bool {
-        self.counted.run::<WIDTH>(words)
+    fn run<const WIDTH: usize>(&mut self, words: &'a [u32]) -> bool {
+        Bytes::<Runs>::run::<WIDTH>(&mut self.counted, words)
     }
 
     #[inline(always)]
-    fn described(&mut self, words: &[u32], end: usize, length: usize) {
-        if length == self.label.len() && same(&words[end - length..end], self.label) {
+    fn described(&mut self, table: &Runs, end: usize, length: usize) {
+        if length == self.label.len() && same(&table.bodies[end - length..end], self.label) {
             self.entries += 1;
         }
     }
@@ -45,15 +46,14 @@ fn same(chars: &[u32], label: &[u16]) -> bool {
 
 /// A good table, and the label that is looked for.
 struct Search<'a> {
-    contents: &'a [u32],
-    bodies: &'a [u32],
+    table: Runs<'a>,
     label: &'a [u16],
 }
 
 impl Search<'_> {
     /// How many entries there are, if the runs are a table that an acceptable file gives.
     fn count(&self) -> Option<usize> {
-        let matched = from_table::walk(FromTable::new(self.contents, self.bodies, Matched::new(self.label)))?;
+        let matched = from_table::walk(FromTable::new(self.table, Matched::new(self.label)))?;
         (matched.counted.bytes <= LONGEST_FILE).then_some(matched.entries)
     }
 
@@ -64,15 +64,15 @@ impl Search<'_> {
         if kind == GROUP as usize {
             // n, flow frame flag and the description's length stand before its chars.
             return length == 3 + self.label.len()
-                && same(&self.bodies[start + 3..start + length], self.label);
+                && same(&self.table.bodies[start + 3..start + length], self.label);
         }
         // A longer description may end like the label and its length, so a walk has to tell where it begins.
-        ends_like(&self.bodies[start..start + length], self.label)
+        ends_like(&self.table.bodies[start..start + length], self.label)
             && self.walk_finds_label(row, start, parent)
     }
 
     fn walk_finds_label(&self, row: usize, start: usize, parent: usize) -> bool {
-        let from = FromTable::new(self.contents, self.bodies, Matched::new(self.label)).at_row(row, start);
+        let from = FromTable::new(self.table, Matched::new(self.label)).at_row(row, start);
         // The depth does not matter for an object that is no group, but that it is not the outer one.
         from_table::walk_object(from, parent, 2).is_some_and(|matched| matched.entries == 1)
     }
@@ -88,7 +88,7 @@ fn ends_like(body: &[u32], label: &[u16]) -> bool {
 
 /// The list call.
 pub fn list(contents: &[u32], bodies: &[u32], label: &[u16], entries: &mut [u32]) -> Answer {
-    let search = Search { contents, bodies, label };
+    let search = Search { table: Runs { contents, bodies }, label };
     let Some(count) = search.count() else {
         return Answer::refused(16, 0);
     };

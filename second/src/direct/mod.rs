@@ -1,12 +1,14 @@
-//! Reading, checking, writing, listing and the box question as a program does it that cares for time: from bytes to words and back, without
-//! the drawing in between and without memory of its own. A first walk judges and counts before anything is stored, so a refusal stores
-//! nothing. The plain modules say what is right; this one is measured beside the library, and `tests/direct.rs` and `tests/direct_boxes.rs`
-//! hold it to the plain answers.
+//! Reading, checking, writing, listing, the box question and storing as a program does it that cares for time: from bytes to words and
+//! back, without the drawing in between and without memory of its own. A first walk judges and counts before anything is stored, so a
+//! refusal stores nothing. The plain modules say what is right; this one is measured beside the library, and `tests/direct.rs`,
+//! `tests/direct_boxes.rs` and `tests/direct_sheets.rs` hold it to the plain answers.
 
 mod extent;
 mod from_file;
 mod from_table;
 mod list;
+mod sheet;
+mod source;
 mod walk;
 
 use crate::answer::Answer;
@@ -16,6 +18,8 @@ pub use extent::extent;
 use from_file::FromFile;
 use from_table::FromTable;
 pub use list::list;
+pub use sheet::{sheet_read, sheet_write};
+use source::{Runs, Source};
 
 /// The read call.
 pub fn read(file: &[u8], contents: &mut [u32], bodies: &mut [u32]) -> Answer {
@@ -41,9 +45,9 @@ pub fn read(file: &[u8], contents: &mut [u32], bodies: &mut [u32]) -> Answer {
     }
 }
 
-/// The file's length if the runs are a table that an acceptable file gives.
-fn length(contents: &[u32], bodies: &[u32]) -> Option<usize> {
-    let counted = from_table::walk(FromTable::new(contents, bodies, from_table::Counted::default()))?;
+/// The file's length if the words are a table that an acceptable file gives.
+fn length(table: impl Source) -> Option<usize> {
+    let counted = from_table::walk(FromTable::new(table, from_table::Counted::default()))?;
     (counted.bytes <= LONGEST_FILE).then_some(counted.bytes)
 }
 
@@ -53,7 +57,7 @@ fn accepted(length: usize, contents: &[u32], bodies: &[u32]) -> Answer {
 
 /// The check call.
 pub fn check(contents: &[u32], bodies: &[u32]) -> Answer {
-    match length(contents, bodies) {
+    match length(Runs { contents, bodies }) {
         None => Answer::refused(16, 0),
         Some(length) => accepted(length, contents, bodies),
     }
@@ -61,14 +65,14 @@ pub fn check(contents: &[u32], bodies: &[u32]) -> Answer {
 
 /// The write call.
 pub fn write(contents: &[u32], bodies: &[u32], file: &mut [u8]) -> Answer {
-    let Some(length) = length(contents, bodies) else {
+    let Some(length) = length(Runs { contents, bodies }) else {
         return Answer::refused(16, 0);
     };
     if file.len() < length {
         return Answer::refused(17, length as u32);
     }
     let stored = from_table::Stored::new(&mut file[..length]);
-    match from_table::walk(FromTable::new(contents, bodies, stored)) {
+    match from_table::walk(FromTable::new(Runs { contents, bodies }, stored)) {
         None => Answer::refused(16, 0),
         Some(_) => accepted(length, contents, bodies),
     }

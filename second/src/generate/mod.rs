@@ -3,6 +3,7 @@
 pub mod coordinates;
 pub mod edges;
 mod parts;
+pub mod sheets;
 pub mod special;
 mod values;
 

@@ -4,6 +4,7 @@ pub mod boxes;
 mod broken;
 pub mod lists;
 pub mod reads;
+pub mod sheets;
 pub mod tables;
 
 use crate::table::Table;
@@ -16,8 +17,14 @@ use std::path::Path;
 type Make = fn(u64) -> Vec<Case>;
 
 /// Each call by the name that its cases have, in the order in which they are run.
-pub const CALLS: [(&str, Make); 4] =
-    [("read", reads::cases), ("table", tables::cases), ("list", lists::cases), ("box", boxes::cases)];
+pub const CALLS: [(&str, Make); 6] = [
+    ("read", reads::cases),
+    ("table", tables::cases),
+    ("list", lists::cases),
+    ("box", boxes::cases),
+    ("sheet_write", sheets::write_cases),
+    ("sheet_read", sheets::read_cases),
+];
 
 /// What lent memory holds before a call.
 pub const FILL: u32 = 0xA5A5_A5A5;

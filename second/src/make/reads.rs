@@ -27,26 +27,29 @@ pub fn cases(seed: u64) -> Vec<Case> {
     empty_groups(&mut files, seed);
     broken::add(&mut files, seed);
     noise(&mut files, seed);
-    files.into_iter().map(|(name, data)| Case { name, groups: groups(&data), data }).collect()
+    files.into_iter().map(|(name, data)| Case { name, groups: groups(read_call, &data), data }).collect()
 }
 
+/// A call that takes bytes and fills a table.
+type Reader = fn(&[u8], &mut [u32], &mut [u32]) -> Answer;
+
 /// The line's groups: with large rooms, then exact ones, then one row short, then one word short.
-fn groups(file: &[u8]) -> Vec<String> {
-    let (answer, first) = group(file, 37_452, 65_536);
+pub fn groups(call: Reader, bytes: &[u8]) -> Vec<String> {
+    let (answer, first) = group(call, bytes, 37_452, 65_536);
     let mut groups = vec![first];
     if answer.number == 0 {
         let (contents, bodies) = (4 * answer.rows as usize, answer.words as usize);
         let rooms = [(contents + 3, bodies), (contents - 1, bodies), (contents, bodies - 1)];
-        groups.extend(rooms.map(|(contents, bodies)| group(file, contents, bodies).1));
+        groups.extend(rooms.map(|(contents, bodies)| group(call, bytes, contents, bodies).1));
     }
     groups
 }
 
 /// One call with rooms of so many words.
-fn group(file: &[u8], contents: usize, bodies: usize) -> (Answer, String) {
+fn group(call: Reader, bytes: &[u8], contents: usize, bodies: usize) -> (Answer, String) {
     let mut contents = vec![FILL; contents];
     let mut bodies = vec![FILL; bodies];
-    let answer = read_call(file, &mut contents, &mut bodies);
+    let answer = call(bytes, &mut contents, &mut bodies);
     let Answer { number, offset, rows, words } = answer;
     let (of_contents, of_bodies) = (hash(contents), hash(bodies));
     (answer, format!("{number} {offset} {rows} {words} {of_contents:08x} {of_bodies:08x}"))

@@ -52,20 +52,29 @@ fn groups(table: &Table) -> Vec<String> {
     let good = check::good(&table.contents, &table.bodies);
     let Answer { number, offset, rows, words } = check::call(good.as_ref());
     let mut groups = vec![format!("{number} {offset} {rows} {words}")];
-    let (answer, group) = written(good.as_ref(), LONGEST_FILE + 1);
-    groups.push(group);
+    groups.extend(writer_groups(write::call, good.as_ref(), LONGEST_FILE + 1));
+    groups
+}
+
+/// A call that takes a table and writes bytes.
+type Writer = fn(Option<&Good>, &mut [u8]) -> Answer;
+
+/// The groups of a writer: with this large room, then an exact one, then one short.
+pub fn writer_groups(call: Writer, good: Option<&Good>, large: usize) -> Vec<String> {
+    let (answer, first) = written(call, good, large);
+    let mut groups = vec![first];
     if answer.number == 0 {
         let length = answer.offset as usize;
-        groups.push(written(good.as_ref(), length).1);
-        groups.push(written(good.as_ref(), length - 1).1);
+        groups.push(written(call, good, length).1);
+        groups.push(written(call, good, length - 1).1);
     }
     groups
 }
 
-/// One write call with an output of so many bytes.
-fn written(good: Option<&Good>, room: usize) -> (Answer, String) {
+/// One call of the writer with an output of so many bytes.
+fn written(call: Writer, good: Option<&Good>, room: usize) -> (Answer, String) {
     let mut output = vec![FILL_BYTE; room];
-    let answer = write::call(good, &mut output);
+    let answer = call(good, &mut output);
     let Answer { number, offset, rows, words } = answer;
     let hash = hash(output.into_iter().map(u32::from));
     (answer, format!("{number} {offset} {rows} {words} {hash:08x}"))
@@ -76,7 +85,7 @@ fn add(tables: &mut Tables, version: Version, name: &str, table: Table) {
 }
 
 /// The table of plan A.
-fn plan_a() -> Table {
+pub fn plan_a() -> Table {
     read::drawing(&plans::plan_a()).map_or(Table::default(), |drawing| table::of(&drawing))
 }
 

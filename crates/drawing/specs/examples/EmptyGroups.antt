@@ -17,7 +17,7 @@ use Rattle.drawing.specs.examples.Bytes.{flag, int, char, string, codes,
 abbrev smallest : List ℕ
 smallest = bytes (head "0" ++ flag 0 ∷ char "G" ∷ int 0 ∷ flag 0 ∷ [])
 
-abbrev empty : Drawing
+abbrev pub empty : Drawing
 empty = record { version = 0; settings = absent; members = ofList []; description = [] }
 
 smallest-whole : Whole smallest empty (1 ∷ 0 ∷ 2 ∷ 2 ∷ []) (words (int 0 ∷ flag 0 ∷ int 0 ∷ flag 0 ∷ []))
@@ -37,7 +37,7 @@ bays =
     ∷ flag 0 ∷ string ""
     ∷ [])
 
-abbrev site : Drawing
+abbrev pub site : Drawing
 site =
     record {
       version = 2;
@@ -46,11 +46,11 @@ site =
       description = [];
     }
 
-abbrev contents : List ℕ
+abbrev pub contents : List ℕ
 contents = 1 ∷ 0 ∷ 21 ∷ 3 ∷ 1 ∷ 0 ∷ 8 ∷ 7 ∷ 1 ∷ 1 ∷ 2 ∷ 6 ∷ 1 ∷ 0 ∷ 15 ∷ 6 ∷ []
 
 -- Rows 2, 1, 3 and 0, as the groups end.
-abbrev bodies : List ℕ
+abbrev pub bodies : List ℕ
 bodies = words (int 2 ∷ flag 0 ∷ int 0 ∷ flag 0 ∷ string "bay" ∷ int 1 ∷ flag 0 ∷ string "hall" ∷ int 0 ∷ flag 0 ∷ string "bay" ∷ int 2 ∷ flag 0 ∷ string "" ∷ [])
 
 site-whole : Whole bays site contents bodies

@@ -1,5 +1,6 @@
 use Rattle.from_file.specs.Groups.{stands-so, comes-so}
 use borrow.Author.Needs.{needs}
+use Rattle.from_file.specs.Way.{units}
 use Rattle.from_file.proofs.each.each.Statement.{statement}
 use Rattle.from_file.proofs.each.each.Tie as tie
 
@@ -10,7 +11,7 @@ each-of-color-requires : tie.Need-each-of-color-requires
 each-of-color-requires c κs =
     let at-group = c .before .before in
     let at-pre = at-group .before .before .before .before in
-    (at-pre .pre .0, stands-so (at-pre .args .src .now) (at-pre .args .at) (at-group .group .given .1) (at-pre .pre .1))
+    (at-pre .pre .0, stands-so (units (at-pre .args .src .now)) (at-pre .args .at) (at-group .group .given .1) (at-pre .pre .1))
 
 enum-told : tie.Need-enum-told
 enum-told c = search needs
@@ -19,7 +20,7 @@ each-of-hsb-requires : tie.Need-each-of-hsb-requires
 each-of-hsb-requires c κs =
     let at-enum-told = c .before in
     let at-pre = at-enum-told .before .before .before .before in
-    (at-pre .pre .0, stands-so (at-pre .args .src .now) (at-pre .args .at) (at-enum-told .enum-told .given .1) (at-pre .pre .1))
+    (at-pre .pre .0, stands-so (units (at-pre .args .src .now)) (at-pre .args .at) (at-enum-told .enum-told .given .1) (at-pre .pre .1))
 
 enum-told-2 : tie.Need-enum-told-2
 enum-told-2 c = search needs
@@ -34,7 +35,7 @@ each-of-segment-requires : tie.Need-each-of-segment-requires
 each-of-segment-requires c κs =
     let at-group2 = c .before .before in
     let at-pre = at-group2 .before .before .before .before in
-    (at-pre .pre .0, stands-so (at-pre .args .src .now) (at-pre .args .at) (at-group2 .group2 .given .1) (at-pre .pre .1))
+    (at-pre .pre .0, stands-so (units (at-pre .args .src .now)) (at-pre .args .at) (at-group2 .group2 .given .1) (at-pre .pre .1))
 
 enum-told-3 : tie.Need-enum-told-3
 enum-told-3 c = search needs
@@ -43,7 +44,7 @@ each-of-joined-requires : tie.Need-each-of-joined-requires
 each-of-joined-requires c κs =
     let at-enum-told3 = c .before in
     let at-pre = at-enum-told3 .before .before .before .before in
-    (at-pre .pre .0, stands-so (at-pre .args .src .now) (at-pre .args .at) (at-enum-told3 .enum-told3 .given .1) (at-pre .pre .1))
+    (at-pre .pre .0, stands-so (units (at-pre .args .src .now)) (at-pre .args .at) (at-enum-told3 .enum-told3 .given .1) (at-pre .pre .1))
 
 same-length : tie.Need-same-length
 same-length c = search needs

@@ -1,4 +1,4 @@
-use Rattle.from_file.specs.Way.{way}
+use Rattle.from_file.specs.Way.{way, units}
 use Rattle.ways.specs.LayoutLaws.{valued-laid, came-nowhere, came-on, one-of, none-of}
 use Rattle.ways.specs.Carries.{Progress}
 use Rattle.drawing.specs.Fields as F
@@ -11,7 +11,7 @@ use Rattle.from_file.proofs.each.each_component.Statement.{statement}
 use Rattle.from_file.proofs.each.each_component.Tie as tie
 
 abbrev Inv-loop : tie.InvT-loop
-Inv-loop src dst₀ at to count behind₀ left₀ dst behind left = Progress (λ K. repeat count (field F.component) ⟫ K) (λ K. repeat left (field F.component) ⟫ K) way src dst₀ dst at to (behind .at) (behind .to) × (length dst ≡ length dst₀)
+Inv-loop src dst₀ at to count behind₀ left₀ dst behind left = Progress (λ K. repeat count (field F.component) ⟫ K) (λ K. repeat left (field F.component) ⟫ K) way (units src) dst₀ dst at to (behind .at) (behind .to) × (length dst ≡ length dst₀)
 
 abbrev μ-loop : tie.MeasureT-loop
 μ-loop src dst₀ at to count behind₀ left₀ dst behind left = left

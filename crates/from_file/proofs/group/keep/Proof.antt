@@ -1,4 +1,4 @@
-use Rattle.from_file.specs.Way.{way}
+use Rattle.from_file.specs.Way.{way, units}
 use Rattle.ways.specs.StepLaws.{steps-small}
 use Rattle.ways.specs.Moves.{moved-one}
 use Rattle.ways.specs.Way.{targetUnits}
@@ -39,7 +39,7 @@ returns c =
     let at-put = at-before .before in
     let at-get = at-put .before .before in
     let at-args = at-get .before .before .before in
-    moved-one way (at-args .args .size) (at-args .args .src .now) (c .step .ensures) (at-put .put .ensures ∙ ap (λ v. put (at-args .args .to) (digits (way .target .base) (targetUnits way (at-args .args .size)) v) (at-args .args .dst .now)) (at-get .get .ensures .0))
+    moved-one way (at-args .args .size) (units (at-args .args .src .now)) (c .step .ensures) (at-put .put .ensures ∙ ap (λ v. put (at-args .args .to) (digits (way .target .base) (targetUnits way (at-args .args .size)) v) (at-args .args .dst .now)) (at-get .get .ensures .0))
 
 pub keep-spec : {M : Type 1} → statement M
 keep-spec = tie.close (tie.spec get-requires put-requires step-requires same-length returns)

@@ -1,10 +1,9 @@
 use native.Mathlib.Omega.{arith}
 use mathlib.Core.Path.{_≡_}
-use Rattle.format.specs.LeafLaws.{known-below}
 use Rattle.memory.specs.SizeLaws.{field-eight}
 use Rattle.ways.specs.StepLaws.{there-below}
 use Rattle.ways.specs.Way.{valueAt}
-use Rattle.from_file.specs.Way.{way, unit}
+use Rattle.from_file.specs.Way.{way, units-below}
 use borrow.Author.Needs.{needs}
 use Rattle.from_file.proofs.prims.get.Statement.{statement}
 use Rattle.from_file.proofs.prims.get.Tie as tie
@@ -41,7 +40,7 @@ returns c =
     let at-args = at-shared-slice-known .before in
     let us = at-args .args .src .now in
     let value : c .byte-at .result ≡ valueAt way (at-args .args .size) us (at-args .args .at) = rw (at-match .match .keys1) (c .byte-at .ensures) in
-    (value, rw value (there-below way us (at-args .args .at) (at-args .args .size) (known-below unit us (at-shared-slice-known .shared-slice-known .given)) (at-args .pre .1) .small))
+    (value, rw value (there-below way us (at-args .args .at) (at-args .args .size) (units-below us (at-shared-slice-known .shared-slice-known .given)) (at-args .pre .1) .small))
 
 returns-2 : tie.Need-returns-2
 returns-2 c =
@@ -50,7 +49,7 @@ returns-2 c =
     let at-args = at-shared-slice-known .before in
     let us = at-args .args .src .now in
     let value : c .char-at .result ≡ valueAt way (at-args .args .size) us (at-args .args .at) = rw (at-match .match .keys2) (c .char-at .ensures) in
-    (value, rw value (there-below way us (at-args .args .at) (at-args .args .size) (known-below unit us (at-shared-slice-known .shared-slice-known .given)) (at-args .pre .1) .small))
+    (value, rw value (there-below way us (at-args .args .at) (at-args .args .size) (units-below us (at-shared-slice-known .shared-slice-known .given)) (at-args .pre .1) .small))
 
 returns-3 : tie.Need-returns-3
 returns-3 c =
@@ -59,7 +58,7 @@ returns-3 c =
     let at-args = at-shared-slice-known .before in
     let us = at-args .args .src .now in
     let value : c .word-at .result ≡ valueAt way (at-args .args .size) us (at-args .args .at) = rw (at-match .match .keys3) (c .word-at .ensures) in
-    (value, rw value (there-below way us (at-args .args .at) (at-args .args .size) (known-below unit us (at-shared-slice-known .shared-slice-known .given)) (at-args .pre .1) .small))
+    (value, rw value (there-below way us (at-args .args .at) (at-args .args .size) (units-below us (at-shared-slice-known .shared-slice-known .given)) (at-args .pre .1) .small))
 
 returns-4 : tie.Need-returns-4
 returns-4 c =
@@ -67,7 +66,7 @@ returns-4 c =
     let at-args = at-shared-slice-known .before in
     let us = at-args .args .src .now in
     let value : c .double-at .result ≡ valueAt way (at-args .args .size) us (at-args .args .at) = rw (eight (c .before)) (c .double-at .ensures) in
-    (value, rw value (there-below way us (at-args .args .at) (at-args .args .size) (known-below unit us (at-shared-slice-known .shared-slice-known .given)) (at-args .pre .1) .small))
+    (value, rw value (there-below way us (at-args .args .at) (at-args .args .size) (units-below us (at-shared-slice-known .shared-slice-known .given)) (at-args .pre .1) .small))
 
 pub get-spec : {M : Type 1} → statement M
 get-spec =

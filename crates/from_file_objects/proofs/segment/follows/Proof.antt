@@ -1,4 +1,4 @@
-use Rattle.from_file.specs.Way.{way}
+use Rattle.from_file.specs.Way.{way, units}
 use Rattle.ways.specs.Way.{valueAt}
 use borrow.Author.Tests.{eqb-true}
 use native.Mathlib.Omega.{arith}
@@ -54,8 +54,8 @@ returns-2 c =
     λ e.
     record {
       inside = omega (arith, at-pre .pre .1);
-      x-is = sym (at-get .get .ensures .0 ∙ ap (valueAt way 8 (at-pre .args .src .now)) (at-past .past .ensures)) ∙ at-if1 .if1 .left ∙ at-get2 .get2 .ensures .0 ∙ ap (λ w. valueAt way 8 (at-pre .args .src .now) (at-pre .args .at - 2 * w)) (at-source-units .source-units .ensures);
-      y-is = sym (at-get3 .get3 .ensures .0 ∙ ap₂ (λ s w. valueAt way 8 (at-pre .args .src .now) (s + w)) (at-past .past .ensures) (at-source-units .source-units .ensures)) ∙ eqb-true (at-get3 .get3 .result) (c .get4 .result) e ∙ c .get4 .ensures .0 ∙ ap (λ w. valueAt way 8 (at-pre .args .src .now) (at-pre .args .at - w)) (at-source-units .source-units .ensures);
+      x-is = sym (at-get .get .ensures .0 ∙ ap (valueAt way 8 (units (at-pre .args .src .now))) (at-past .past .ensures)) ∙ at-if1 .if1 .left ∙ at-get2 .get2 .ensures .0 ∙ ap (λ w. valueAt way 8 (units (at-pre .args .src .now)) (at-pre .args .at - 2 * w)) (at-source-units .source-units .ensures);
+      y-is = sym (at-get3 .get3 .ensures .0 ∙ ap₂ (λ s w. valueAt way 8 (units (at-pre .args .src .now)) (s + w)) (at-past .past .ensures) (at-source-units .source-units .ensures)) ∙ eqb-true (at-get3 .get3 .result) (c .get4 .result) e ∙ c .get4 .ensures .0 ∙ ap (λ w. valueAt way 8 (units (at-pre .args .src .now)) (at-pre .args .at - w)) (at-source-units .source-units .ensures);
     }
 
 pub follows-spec : {M : Type 1} → statement M

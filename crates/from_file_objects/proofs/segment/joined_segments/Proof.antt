@@ -1,4 +1,4 @@
-use Rattle.from_file.specs.Way.{way}
+use Rattle.from_file.specs.Way.{way, units}
 use Rattle.ways.specs.Carries.{Progress}
 use Rattle.ways.specs.LayoutLaws.{came-nowhere, came-on, came-refused}
 use Rattle.ways.specs.Passes.{refused}
@@ -17,7 +17,7 @@ use Rattle.from_file_objects.proofs.segment.joined_segments.Tie as tie
 
 abbrev Inv-loop : tie.InvT-loop
 Inv-loop src dst₀ at to count behind₀ first₀ left₀ dst behind first left =
-    Progress (λ K. segmentsOf true count none ⟫ K) (λ K. segmentsOf true left (before way first src (behind .at)) ⟫ K) way src dst₀ dst at to (behind .at) (behind .to) × (length dst ≡ length dst₀) × (first ≡ false → behind .at < refused → 2 * sourceUnits way 8 ≤ behind .at)
+    Progress (λ K. segmentsOf true count none ⟫ K) (λ K. segmentsOf true left (before way first (units src) (behind .at)) ⟫ K) way (units src) dst₀ dst at to (behind .at) (behind .to) × (length dst ≡ length dst₀) × (first ≡ false → behind .at < refused → 2 * sourceUnits way 8 ≤ behind .at)
 
 abbrev μ-loop : tie.MeasureT-loop
 μ-loop src dst₀ at to count behind₀ first₀ left₀ dst behind first left = left
@@ -56,7 +56,7 @@ loop-again c =
     let at-loop-test = at-joined-segment .before .before .before .before in
     let at-loop = at-loop-test .before in
     let at-args = at-loop .before .before .before in
-    (came-on (at-loop .loop .inv .0) (one-segment (at-loop .loop .left) (before way (at-loop .loop .first) (at-args .args .src .now) (at-loop .loop .behind .at)) (at-loop-test .loop-test .taken) (at-joined-segment .joined-segment .ensures)), at-dst .dst .given ∙ at-loop .loop .inv .1, λ e going. at-joined-segment .joined-segment .ensures .room going)
+    (came-on (at-loop .loop .inv .0) (one-segment (at-loop .loop .left) (before way (at-loop .loop .first) (units (at-args .args .src .now)) (at-loop .loop .behind .at)) (at-loop-test .loop-test .taken) (at-joined-segment .joined-segment .ensures)), at-dst .dst .given ∙ at-loop .loop .inv .1, λ e going. at-joined-segment .joined-segment .ensures .room going)
 
 same-length-2 : tie.Need-same-length-2 Inv-loop μ-loop
 same-length-2 c = c .before .loop .inv .1
@@ -66,7 +66,7 @@ returns-2 c =
     let at-loop = c .before in
     let at-args = at-loop .before .before .before in
     let came = at-loop .loop .inv .0 in
-    record { carried = came-on came (none-segment (at-loop .loop .left) (before way (at-loop .loop .first) (at-args .args .src .now) (at-loop .loop .behind .at)) (λ h. omega (arith, h, c .loop-test .left)) (came .ready)) }
+    record { carried = came-on came (none-segment (at-loop .loop .left) (before way (at-loop .loop .first) (units (at-args .args .src .now)) (at-loop .loop .behind .at)) (λ h. omega (arith, h, c .loop-test .left)) (came .ready)) }
 
 pub joined-segments-spec : {M : Type 1} → statement M
 joined-segments-spec =

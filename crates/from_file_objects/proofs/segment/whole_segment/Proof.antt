@@ -1,8 +1,7 @@
-use Rattle.from_file.specs.Way.{way, unit}
+use Rattle.from_file.specs.Way.{way, units, units-below}
 use Rattle.ways.specs.Segments.{straight, Letter}
 use Rattle.ways.specs.SegmentLaws.{curve-letter, straight-letter, moved-spelled, joins-ended}
 use Rattle.ways.specs.Way.{valueAt}
-use Rattle.format.specs.LeafLaws.{known-below}
 use native.Mathlib.Omega.{arith}
 use mathlib.Core.Path.{refl, sym, ap, _∙_}
 use borrow.Author.Needs.{needs}
@@ -21,7 +20,7 @@ keep-segment-requires c κs =
     let at-is-straight = at-if1 .before in
     let at-get = at-is-straight .before in
     let at-args = at-get .before .before .before in
-    let told : Letter (valueAt way 2 (at-args .args .src .now) (at-args .args .at)) 2 = straight-letter (ap straight (sym (at-get .get .ensures .0)) ∙ sym (at-is-straight .is-straight .ensures) ∙ at-if1 .if1 .taken) in
+    let told : Letter (valueAt way 2 (units (at-args .args .src .now)) (at-args .args .at)) 2 = straight-letter (ap straight (sym (at-get .get .ensures .0)) ∙ sym (at-is-straight .is-straight .ensures) ∙ at-if1 .if1 .taken) in
     (at-args .pre .0, (omega (arith, at-args .pre .1 .1 .1), told .allowed .fits))
 
 same-length : tie.Need-same-length
@@ -35,9 +34,9 @@ returns c =
     let at-get = at-is-straight .before in
     let at-shared-slice-known = at-get .before .before in
     let at-args = at-shared-slice-known .before in
-    let told : Letter (valueAt way 2 (at-args .args .src .now) (at-args .args .at)) 2 = straight-letter (ap straight (sym (at-get .get .ensures .0)) ∙ sym (at-is-straight .is-straight .ensures) ∙ at-if1 .if1 .taken) in
-    let below = known-below unit (at-args .args .src .now) (at-shared-slice-known .shared-slice-known .given) in
-    joins-ended way (at-args .args .src .now) below (omega arith) (at-args .args .first) (at-args .pre .1 .1 .0) (moved-spelled 2 2 below (omega arith) (at-args .pre .0) (omega (arith, at-args .pre .1 .1 .1)) told refl (at-keep-segment .keep-segment .ensures))
+    let told : Letter (valueAt way 2 (units (at-args .args .src .now)) (at-args .args .at)) 2 = straight-letter (ap straight (sym (at-get .get .ensures .0)) ∙ sym (at-is-straight .is-straight .ensures) ∙ at-if1 .if1 .taken) in
+    let below = units-below (at-args .args .src .now) (at-shared-slice-known .shared-slice-known .given) in
+    joins-ended way (units (at-args .args .src .now)) below (omega arith) (at-args .args .first) (at-args .pre .1 .1 .0) (moved-spelled 2 2 below (omega arith) (at-args .pre .0) (omega (arith, at-args .pre .1 .1 .1)) told refl (at-keep-segment .keep-segment .ensures))
 
 there-requires : tie.Need-there-requires
 there-requires c κs = search needs
@@ -49,7 +48,7 @@ keep-segment-requires-2 c κs =
     let at-if2 = at-there .before in
     let at-get = at-if2 .before .before .before in
     let at-args = at-get .before .before .before in
-    let told : Letter (valueAt way 2 (at-args .args .src .now) (at-args .args .at)) 6 = curve-letter (sym (at-get .get .ensures .0) ∙ at-if2 .if2 .taken) in
+    let told : Letter (valueAt way 2 (units (at-args .args .src .now)) (at-args .args .at)) 6 = curve-letter (sym (at-get .get .ensures .0) ∙ at-if2 .if2 .taken) in
     let yes = at-there .there .ensures .yes (at-if3 .if3 .taken) in
     (at-args .pre .0, (omega (arith, yes), told .allowed .fits))
 
@@ -65,10 +64,10 @@ returns-2 c =
     let at-get = at-if2 .before .before .before in
     let at-shared-slice-known = at-get .before .before in
     let at-args = at-shared-slice-known .before in
-    let told : Letter (valueAt way 2 (at-args .args .src .now) (at-args .args .at)) 6 = curve-letter (sym (at-get .get .ensures .0) ∙ at-if2 .if2 .taken) in
+    let told : Letter (valueAt way 2 (units (at-args .args .src .now)) (at-args .args .at)) 6 = curve-letter (sym (at-get .get .ensures .0) ∙ at-if2 .if2 .taken) in
     let yes = at-there .there .ensures .yes (at-if3 .if3 .taken) in
-    let below = known-below unit (at-args .args .src .now) (at-shared-slice-known .shared-slice-known .given) in
-    joins-ended way (at-args .args .src .now) below (omega arith) (at-args .args .first) (at-args .pre .1 .1 .0) (moved-spelled 2 4 below (omega arith) (at-args .pre .0) (omega (arith, yes)) told refl (at-keep-segment2 .keep-segment2 .ensures))
+    let below = units-below (at-args .args .src .now) (at-shared-slice-known .shared-slice-known .given) in
+    joins-ended way (units (at-args .args .src .now)) below (omega arith) (at-args .args .first) (at-args .pre .1 .1 .0) (moved-spelled 2 4 below (omega arith) (at-args .pre .0) (omega (arith, yes)) told refl (at-keep-segment2 .keep-segment2 .ensures))
 
 each-with-start-requires : tie.Need-each-with-start-requires
 each-with-start-requires c κs =

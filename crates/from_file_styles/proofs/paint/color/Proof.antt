@@ -1,8 +1,7 @@
-use Rattle.from_file.specs.Way.{way, unit}
+use Rattle.from_file.specs.Way.{way, units, units-below}
 use Rattle.ways.specs.NowhereLaws.{moves-led}
 use Rattle.ways.specs.Moves.{AllAllowed}
 use Rattle.drawing.specs.Fields as F
-use Rattle.format.specs.LeafLaws.{known-below}
 use native.Mathlib.Omega.{arith}
 use mathlib.Core.List.{[], _∷_}
 use mathlib.Core.Path.{refl, subst}
@@ -55,8 +54,8 @@ returns c =
     let at-shared-slice-known = at-there .before .before in
     let at-args = at-shared-slice-known .before in
     let yes = at-there .there .ensures .yes (at-if1 .if1 .taken) in
-    let all = subst (AllAllowed way F.component 4 (at-args .args .count) (at-args .args .src .now)) (at-past .past .ensures) (at-all-components .all-components .ensures (at-if2 .if2 .taken)) in
-    moves-led ((F.component, at-args .args .count) ∷ []) (λ K. refl) refl (known-below unit (at-args .args .src .now) (at-shared-slice-known .shared-slice-known .given)) (at-args .pre .0) (omega (arith, yes)) (all, tt) (at-keep-color .keep-color .ensures)
+    let all = subst (AllAllowed way F.component 4 (at-args .args .count) (units (at-args .args .src .now))) (at-past .past .ensures) (at-all-components .all-components .ensures (at-if2 .if2 .taken)) in
+    moves-led ((F.component, at-args .args .count) ∷ []) (λ K. refl) refl (units-below (at-args .args .src .now) (at-shared-slice-known .shared-slice-known .given)) (at-args .pre .0) (omega (arith, yes)) (all, tt) (at-keep-color .keep-color .ensures)
 
 each-requires : tie.Need-each-requires
 each-requires c κs = search needs

@@ -1,7 +1,6 @@
-use Rattle.from_file.specs.Way.{way, unit}
+use Rattle.from_file.specs.Way.{way, units-below}
 use Rattle.ways.specs.NowhereLaws.{moves-apart, moves-led, one-allowed}
 use Rattle.drawing.specs.Fields as F
-use Rattle.format.specs.LeafLaws.{known-below}
 use native.Mathlib.Omega.{arith}
 use mathlib.Core.List.{[], _∷_}
 use mathlib.Core.Path.{refl}
@@ -39,7 +38,7 @@ returns c =
     let at-args = at-shared-slice-known .before in
     let yes = at-there .there .ensures .yes (at-if1 .if1 .taken) in
     let good = at-hsb-good .hsb-good .ensures (at-if2 .if2 .taken) in
-    moves-led ((F.hue, 1) ∷ (F.component, 3) ∷ []) (λ K. refl) refl (known-below unit (at-args .args .src .now) (at-shared-slice-known .shared-slice-known .given)) (at-args .pre .0) (omega (arith, yes)) (one-allowed (good .0), (good .1, tt)) (moves-apart way 4 1 3 [] ((2, 1) ∷ []) (at-keep-color .keep-color .ensures))
+    moves-led ((F.hue, 1) ∷ (F.component, 3) ∷ []) (λ K. refl) refl (units-below (at-args .args .src .now) (at-shared-slice-known .shared-slice-known .given)) (at-args .pre .0) (omega (arith, yes)) (one-allowed (good .0), (good .1, tt)) (moves-apart way 4 1 3 [] ((2, 1) ∷ []) (at-keep-color .keep-color .ensures))
 
 each-requires : tie.Need-each-requires
 each-requires c κs = search needs

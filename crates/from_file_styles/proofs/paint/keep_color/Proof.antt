@@ -1,4 +1,4 @@
-use Rattle.from_file.specs.Way.{way}
+use Rattle.from_file.specs.Way.{way, units}
 use Rattle.ways.specs.NowhereLaws.{Grouped, ahead-small, moves-nowhere, moves-on, moves-last}
 use Rattle.ways.specs.Moves.{moved-ready}
 use Rattle.ways.specs.Way.{sourceUnits}
@@ -40,7 +40,7 @@ keep-words-requires : tie.Need-keep-words-requires
 keep-words-requires c κs =
     let at-keep = c .before .before .before in
     let at-args = at-keep .before .before .before .before .before in
-    let some : at-args .args .at + 1 * sourceUnits way 2 ≤ length (at-args .args .src .now) = omega (arith, at-args .pre .1 .0) in
+    let some : at-args .args .at + 1 * sourceUnits way 2 ≤ length (units (at-args .args .src .now)) = omega (arith, at-args .pre .1 .0) in
     let next : at-keep .keep .result .at ≡ at-args .args .at + 1 * sourceUnits way 2 = ap (λ (q : Pass). q .at) (at-keep .keep .ensures .is) in
     (moved-ready 2 1 (at-args .pre .0) some (omega arith) (omega arith) (at-keep .keep .ensures), omega (arith, next, at-args .pre .1 .0))
 

@@ -1,5 +1,5 @@
 -- Made by tools/ways from crates/from_file.
-use Rattle.from_table.specs.Way.{way}
+use Rattle.from_table.specs.Way.{way, units}
 use Rattle.ways.specs.SegmentLaws.{joined-ended}
 use Rattle.ways.specs.Segments.{endBefore}
 use native.Mathlib.Omega.{arith}
@@ -33,7 +33,7 @@ returns c =
     let at-joined-start = at-doubles-behind .before .before .before in
     let at-segment-letter = at-joined-start .before .before .before .before .before in
     let at-args = at-segment-letter .before .before .before .before in
-    joined-ended (endBefore way (at-args .args .src .now) (at-args .args .at)) (at-segment-letter .segment-letter .ensures) (at-joined-start .joined-start .ensures) (at-doubles-behind .doubles-behind .ensures .0) (at-run .run .ensures)
+    joined-ended (endBefore way (units (at-args .args .src .now)) (at-args .args .at)) (at-segment-letter .segment-letter .ensures) (at-joined-start .joined-start .ensures) (at-doubles-behind .doubles-behind .ensures .0) (at-run .run .ensures)
 
 pub each-of-joined-spec : {M : Type 1} → statement M
 each-of-joined-spec =

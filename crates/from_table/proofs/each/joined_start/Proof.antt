@@ -1,5 +1,5 @@
 -- Made by tools/ways from crates/from_file.
-use Rattle.from_table.specs.Way.{way}
+use Rattle.from_table.specs.Way.{way, units}
 use Rattle.ways.specs.SegmentLaws.{joined-laid}
 use Rattle.ways.specs.Segments.{endBefore}
 use Rattle.ways.specs.Way.{valueAt}
@@ -44,7 +44,7 @@ returns c =
     let at-get = at-get2 .before in
     let at-source-units = at-get .before in
     let at-args = at-source-units .before .before .before in
-    joined-laid (endBefore way (at-args .args .src .now) (at-args .args .joint)) (at-get .get .ensures .0 ∙ ap (λ w. valueAt way 8 (at-args .args .src .now) (at-args .args .joint - 2 * w)) (at-source-units .source-units .ensures)) (at-get2 .get2 .ensures .0 ∙ ap (λ w. valueAt way 8 (at-args .args .src .now) (at-args .args .joint - w)) (at-source-units .source-units .ensures)) (at-joined .joined .ensures) (at-joined2 .joined2 .ensures)
+    joined-laid (endBefore way (units (at-args .args .src .now)) (at-args .args .joint)) (at-get .get .ensures .0 ∙ ap (λ w. valueAt way 8 (units (at-args .args .src .now)) (at-args .args .joint - 2 * w)) (at-source-units .source-units .ensures)) (at-get2 .get2 .ensures .0 ∙ ap (λ w. valueAt way 8 (units (at-args .args .src .now)) (at-args .args .joint - w)) (at-source-units .source-units .ensures)) (at-joined .joined .ensures) (at-joined2 .joined2 .ensures)
 
 pub joined-start-spec : {M : Type 1} → statement M
 joined-start-spec =

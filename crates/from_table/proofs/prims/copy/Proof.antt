@@ -1,7 +1,7 @@
 use native.Mathlib.Omega.{arith}
 use Prim.Native.Nat.{_+_, _/_, _^_}
 use Rattle.memory.specs.FitLaws.{run-nowhere}
-use Rattle.from_table.specs.Way.{chars-small}
+use Rattle.ways.specs.TableWay.{chars-small}
 use borrow.Author.Needs.{needs}
 use Rattle.from_table.proofs.prims.copy.Statement.{statement}
 use Rattle.from_table.proofs.prims.copy.Tie as tie

@@ -1,12 +1,11 @@
 use native.Mathlib.Omega.{arith}
 use mathlib.Core.Path.{_≡_}
 use lib.ListN.{getD}
-use Rattle.format.specs.LeafLaws.{known-below}
 use Rattle.memory.specs.WordLaws.{one-word, two-words}
 use Rattle.memory.specs.SizeLaws.{field-size}
 use Rattle.ways.specs.StepLaws.{there-below}
 use Rattle.ways.specs.Way.{valueAt}
-use Rattle.from_table.specs.Way.{way, unit}
+use Rattle.from_table.specs.Way.{way, units-below}
 use borrow.Author.Needs.{needs}
 use Rattle.from_table.proofs.prims.get.Statement.{statement}
 use Rattle.from_table.proofs.prims.get.Tie as tie
@@ -32,7 +31,7 @@ returns c =
     let us = at-args .args .src .now in
     let sizes = field-size (at-args .args .size) (at-args .pre .0) in
     let value : getD us (at-args .args .at) 0 ≡ valueAt way (at-args .args .size) us (at-args .args .at) = one-word us (at-args .args .at) (at-args .args .size) (at-args .pre .1) (sizes .0) (at-if1 .if1 .taken) in
-    (value, rw value (there-below way us (at-args .args .at) (at-args .args .size) (known-below unit us (at-shared-slice-known .shared-slice-known .given)) (at-args .pre .1) .small))
+    (value, rw value (there-below way us (at-args .args .at) (at-args .args .size) (units-below us (at-shared-slice-known .shared-slice-known .given)) (at-args .pre .1) .small))
 
 mul-from-halves : tie.Need-mul-from-halves
 mul-from-halves c = search needs
@@ -60,7 +59,7 @@ returns-2 c =
     let us = at-args .args .src .now in
     let sizes = field-size (at-args .args .size) (at-args .pre .0) in
     let value : c .from-halves .result ≡ valueAt way (at-args .args .size) us (at-args .args .at) = two-words us (at-args .args .at) (at-args .args .size) (at-args .pre .1) (c .from-halves .result) (at-if1 .if1 .left) (sizes .1) (c .from-halves .ensures) in
-    (value, rw value (there-below way us (at-args .args .at) (at-args .args .size) (known-below unit us (at-shared-slice-known .shared-slice-known .given)) (at-args .pre .1) .small))
+    (value, rw value (there-below way us (at-args .args .at) (at-args .args .size) (units-below us (at-shared-slice-known .shared-slice-known .given)) (at-args .pre .1) .small))
 
 pub get-spec : {M : Type 1} → statement M
 get-spec =

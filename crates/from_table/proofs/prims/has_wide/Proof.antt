@@ -1,4 +1,4 @@
-use Rattle.from_table.specs.Way.{blind, words-small, chars-there, small-chars, large-char}
+use Rattle.ways.specs.TableWay.{blind, words-small, chars-there, small-chars, large-char}
 use native.Mathlib.Omega.{arith}
 use mathlib.Core.Bool.{false≢true, true≢false}
 use Rattle.from_table.proofs.prims.has_wide.Statement.{statement}

@@ -3,13 +3,12 @@ use Prim.Native.Nat.{_+_, _*_, _≤_, _<_}
 use lib.ListN.{length}
 use native.Mathlib.Omega.{arith}
 use mathlib.Core.Path.{refl}
-use Rattle.format.specs.LeafLaws.{known-below}
 use Rattle.ways.specs.Passes.{refusalOf, stepped}
 use Rattle.ways.specs.StepLaws.{steps-small}
 use Rattle.ways.specs.RunLaws.{run-there, run-wide, run-missing}
 use Rattle.ways.specs.Runs.{Runs}
 use Rattle.ways.specs.Way.{sourceUnits}
-use Rattle.from_table.specs.Way.{way, unit}
+use Rattle.from_table.specs.Way.{way, units, units-below}
 use borrow.Author.Needs.{needs}
 use Rattle.from_table.proofs.run.chars.Statement.{statement}
 use Rattle.from_table.proofs.run.chars.Tie as tie
@@ -32,7 +31,7 @@ has-wide-requires : tie.Need-has-wide-requires
 has-wide-requires c κs =
     let at-there = c .before in
     let at-args = at-there .before .before .before in
-    let inside : at-args .args .at + at-args .args .count * sourceUnits way 2 ≤ length (at-args .args .src .now) = omega (arith, at-there .there .ensures .yes (c .if1 .taken)) in
+    let inside : at-args .args .at + at-args .args .count * sourceUnits way 2 ≤ length (units (at-args .args .src .now)) = omega (arith, at-there .there .ensures .yes (c .if1 .taken)) in
     (refl, inside, at-args .pre .0 .short)
 
 refusal-requires : tie.Need-refusal-requires
@@ -45,7 +44,7 @@ returns c =
     let at-if1 = at-has-wide .before in
     let at-there = at-if1 .before in
     let at-args = at-there .before .before .before in
-    let inside : at-args .args .at + at-args .args .count * sourceUnits way 2 ≤ length (at-args .args .src .now) = omega (arith, at-there .there .ensures .yes (at-if1 .if1 .taken)) in
+    let inside : at-args .args .at + at-args .args .count * sourceUnits way 2 ≤ length (units (at-args .args .src .now)) = omega (arith, at-there .there .ensures .yes (at-if1 .if1 .taken)) in
     rw (c .refusal .ensures) (run-wide way {size = 2} (at-args .args .count) (at-args .pre .0) (omega arith) inside (at-has-wide .has-wide .ensures .one (at-if2 .if2 .taken)) .chars refl)
 
 copy-chars-requires : tie.Need-copy-chars-requires
@@ -56,8 +55,8 @@ copy-chars-requires c κs =
     let at-there = at-if1 .before in
     let at-shared-slice-known = at-there .before .before in
     let at-args = at-shared-slice-known .before in
-    let inside : at-args .args .at + at-args .args .count * sourceUnits way 2 ≤ length (at-args .args .src .now) = omega (arith, at-there .there .ensures .yes (at-if1 .if1 .taken)) in
-    (inside, at-has-wide .has-wide .ensures .none (at-if2 .if2 .left) (known-below unit (at-args .args .src .now) (at-shared-slice-known .shared-slice-known .given)))
+    let inside : at-args .args .at + at-args .args .count * sourceUnits way 2 ≤ length (units (at-args .args .src .now)) = omega (arith, at-there .there .ensures .yes (at-if1 .if1 .taken)) in
+    (inside, at-has-wide .has-wide .ensures .none (at-if2 .if2 .left) (units-below (at-args .args .src .now) (at-shared-slice-known .shared-slice-known .given)))
 
 step-requires : tie.Need-step-requires
 step-requires c κs =
@@ -65,7 +64,7 @@ step-requires c κs =
     let at-if1 = at-before .before in
     let at-there = at-if1 .before in
     let at-args = at-there .before .before .before in
-    let inside : at-args .args .at + at-args .args .count * sourceUnits way 2 ≤ length (at-args .args .src .now) = omega (arith, at-there .there .ensures .yes (at-if1 .if1 .taken)) in
+    let inside : at-args .args .at + at-args .args .count * sourceUnits way 2 ≤ length (units (at-args .args .src .now)) = omega (arith, at-there .there .ensures .yes (at-if1 .if1 .taken)) in
     (omega arith, steps-small 2 (at-args .args .count) (at-args .pre .0) inside (omega arith) (omega arith))
 
 same-length : tie.Need-same-length
@@ -81,8 +80,8 @@ returns-2 c =
     let at-there = at-if1 .before in
     let at-shared-slice-known = at-there .before .before in
     let at-args = at-shared-slice-known .before in
-    let inside : at-args .args .at + at-args .args .count * sourceUnits way 2 ≤ length (at-args .args .src .now) = omega (arith, at-there .there .ensures .yes (at-if1 .if1 .taken)) in
-    rw (c .step .ensures) (run-there way {size = 2} (at-args .args .count) (at-args .pre .0) (omega arith) (omega arith) inside (at-has-wide .has-wide .ensures .none (at-if2 .if2 .left) (known-below unit (at-args .args .src .now) (at-shared-slice-known .shared-slice-known .given))) (at-copy-chars .copy-chars .ensures) .chars refl)
+    let inside : at-args .args .at + at-args .args .count * sourceUnits way 2 ≤ length (units (at-args .args .src .now)) = omega (arith, at-there .there .ensures .yes (at-if1 .if1 .taken)) in
+    rw (c .step .ensures) (run-there way {size = 2} (at-args .args .count) (at-args .pre .0) (omega arith) (omega arith) inside (at-has-wide .has-wide .ensures .none (at-if2 .if2 .left) (units-below (at-args .args .src .now) (at-shared-slice-known .shared-slice-known .given))) (at-copy-chars .copy-chars .ensures) .chars refl)
 
 cut-run-requires : tie.Need-cut-run-requires
 cut-run-requires c κs = search needs
@@ -93,8 +92,8 @@ returns-3 c =
     let at-there = at-if1 .before in
     let at-shared-slice-known = at-there .before .before in
     let at-args = at-shared-slice-known .before in
-    let fewer : length (at-args .args .src .now) < at-args .args .at + at-args .args .count * sourceUnits way 2 = omega (arith, at-there .there .ensures .no (at-if1 .if1 .left)) in
-    run-missing way {size = 2} (at-args .args .count) (at-args .pre .0) (omega arith) (known-below unit (at-args .args .src .now) (at-shared-slice-known .shared-slice-known .given)) fewer (c .cut-run .ensures) .chars refl
+    let fewer : length (units (at-args .args .src .now)) < at-args .args .at + at-args .args .count * sourceUnits way 2 = omega (arith, at-there .there .ensures .no (at-if1 .if1 .left)) in
+    run-missing way {size = 2} (at-args .args .count) (at-args .pre .0) (omega arith) (units-below (at-args .args .src .now) (at-shared-slice-known .shared-slice-known .given)) fewer (c .cut-run .ensures) .chars refl
 
 pub chars-spec : {M : Type 1} → statement M
 chars-spec =

@@ -1,9 +1,8 @@
 -- Made by tools/ways from crates/from_file.
-use Rattle.from_table.specs.Way.{way, unit}
+use Rattle.from_table.specs.Way.{way, units-below}
 use Rattle.ways.specs.RunLaws.{run-there, run-wide, run-missing}
 use Rattle.ways.specs.StepLaws.{steps-small}
 use Rattle.memory.specs.SizeLaws.{run-size}
-use Rattle.format.specs.LeafLaws.{known-below}
 use native.Mathlib.Omega.{arith}
 use native.Mathlib.Nat as Nat
 use Prim.Native.Nat.{_+_, _*_, _/_, _≤_}
@@ -68,7 +67,7 @@ copy-requires c κs =
     let at-there = at-if1 .before in
     let at-shared-slice-known = at-there .before .before in
     let at-args = at-shared-slice-known .before in
-    let below = known-below unit (at-args .args .src .now) (at-shared-slice-known .shared-slice-known .given) in
+    let below = units-below (at-args .args .src .now) (at-shared-slice-known .shared-slice-known .given) in
     (at-args .pre .1 .0, at-there .there .ensures .yes (at-if1 .if1 .taken), at-has-wide .has-wide .ensures .none (at-if2 .if2 .left) below)
 
 step-requires : tie.Need-step-requires
@@ -93,7 +92,7 @@ returns-2 c =
     let at-there = at-if1 .before in
     let at-shared-slice-known = at-there .before .before in
     let at-args = at-shared-slice-known .before in
-    let below = known-below unit (at-args .args .src .now) (at-shared-slice-known .shared-slice-known .given) in
+    let below = units-below (at-args .args .src .now) (at-shared-slice-known .shared-slice-known .given) in
     let sizes = run-size (at-args .args .size) (at-args .pre .1 .0) in
     let inside = at-there .there .ensures .yes (at-if1 .if1 .taken) in
     rw (c .step .ensures) (run-there way (at-args .args .count) (at-args .pre .0) (sizes .0) (sizes .1) inside (at-has-wide .has-wide .ensures .none (at-if2 .if2 .left) below) (at-copy .copy .ensures))
@@ -107,7 +106,7 @@ returns-3 c =
     let at-there = at-if1 .before in
     let at-shared-slice-known = at-there .before .before in
     let at-args = at-shared-slice-known .before in
-    let below = known-below unit (at-args .args .src .now) (at-shared-slice-known .shared-slice-known .given) in
+    let below = units-below (at-args .args .src .now) (at-shared-slice-known .shared-slice-known .given) in
     let sizes = run-size (at-args .args .size) (at-args .pre .1 .0) in
     run-missing way (at-args .args .count) (at-args .pre .0) (sizes .0) below (at-there .there .ensures .no (at-if1 .if1 .left)) (c .cut-run .ensures)
 

@@ -1,6 +1,6 @@
 -- Made by tools/ways from crates/from_file.
 use Rattle.ways.specs.TransformationLaws.{six-doubles}
-use Rattle.from_table.specs.Way.{way}
+use Rattle.from_table.specs.Way.{way, units}
 use borrow.Author.Needs.{needs}
 use Rattle.from_table.proofs.transformation.transformation_at.Statement.{statement}
 use Rattle.from_table.proofs.transformation.transformation_at.Tie as tie
@@ -62,7 +62,7 @@ returns c =
     let at-get = at-get2 .before in
     let at-source-units = at-get .before in
     let at-args = at-source-units .before .before in
-    six-doubles way (at-args .args .src .now) (at-args .args .at) (at-source-units .source-units .ensures) (at-get .get .ensures .0) (at-get2 .get2 .ensures .0) (at-get3 .get3 .ensures .0) (at-get4 .get4 .ensures .0) (at-get5 .get5 .ensures .0) (c .get6 .ensures .0)
+    six-doubles way (units (at-args .args .src .now)) (at-args .args .at) (at-source-units .source-units .ensures) (at-get .get .ensures .0) (at-get2 .get2 .ensures .0) (at-get3 .get3 .ensures .0) (at-get4 .get4 .ensures .0) (at-get5 .get5 .ensures .0) (c .get6 .ensures .0)
 
 pub transformation-at-spec : {M : Type 1} → statement M
 transformation-at-spec =

@@ -2,11 +2,10 @@
 use mathlib.Core.Path.{ap}
 use native.Mathlib.Omega.{arith}
 use lib.ListN.{length}
-use Rattle.format.specs.LeafLaws.{known-below}
 use Rattle.ways.specs.StepLaws.{steps-small}
 use Rattle.ways.specs.Moves.{moved-nowhere}
 use Rattle.ways.specs.TransformationLaws.{doubles-moved, transformation-moved, transformation-run}
-use Rattle.from_table.specs.Way.{way, unit}
+use Rattle.from_table.specs.Way.{way, units-below}
 use borrow.Author.Needs.{needs}
 use Rattle.from_table_objects.proofs.bitmap.placed.Statement.{statement}
 use Rattle.from_table_objects.proofs.bitmap.placed.Tie as tie
@@ -30,7 +29,7 @@ returns c =
     let at-shared-slice-known = at-there .before .before in
     let at-args = at-shared-slice-known .before in
     let yes = at-there .there .ensures .yes (at-if1 .if1 .taken) in
-    let below = known-below unit (at-args .args .src .now) (at-shared-slice-known .shared-slice-known .given) in
+    let below = units-below (at-args .args .src .now) (at-shared-slice-known .shared-slice-known .given) in
     transformation-moved {W = way} (omega arith) below (at-args .pre) yes (moved-nowhere way 8 6 (at-if2 .if2 .taken) (c .step .ensures))
 
 transformation-at-requires : tie.Need-transformation-at-requires
@@ -69,7 +68,7 @@ returns-2 c =
     let at-shared-slice-known = at-there .before .before in
     let at-args = at-shared-slice-known .before in
     let yes = at-there .there .ensures .yes (at-if1 .if1 .taken) in
-    let below = known-below unit (at-args .args .src .now) (at-shared-slice-known .shared-slice-known .given) in
+    let below = units-below (at-args .args .src .now) (at-shared-slice-known .shared-slice-known .given) in
     transformation-moved {W = way} (omega arith) below (at-args .pre) yes (doubles-moved way (at-transformation-at .transformation-at .ensures) (at-put-transformation .put-transformation .ensures) (c .step2 .ensures))
 
 run-requires : tie.Need-run-requires

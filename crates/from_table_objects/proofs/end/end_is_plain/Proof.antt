@@ -4,7 +4,7 @@ use mathlib.Core.Bool.{false≢true}
 use borrow.Author.Tests.{eqb-true}
 use native.Mathlib.Omega.{arith}
 use Rattle.ways.specs.Way.{valueAt}
-use Rattle.from_table.specs.Way.{way}
+use Rattle.from_table.specs.Way.{way, units}
 use borrow.Author.Needs.{needs}
 use Rattle.from_table_objects.proofs.end.end_is_plain.Statement.{statement}
 use Rattle.from_table_objects.proofs.end.end_is_plain.Tie as tie
@@ -35,7 +35,7 @@ returns-2 c =
     let at-if1 = at-get .before in
     let at-there = at-if1 .before in
     let at-args = at-there .before .before in
-    λ e. let yes = at-there .there .ensures .yes (at-if1 .if1 .taken) in (record { inside = omega (arith, yes); is = sym (at-get .get .ensures .0) ∙ at-if2 .if2 .left }, record { inside = omega (arith, yes); is = sym (c .get2 .ensures .0 ∙ ap (valueAt way 4 (at-args .args .src .now)) (at-past .past .ensures)) ∙ eqb-true _ _ e })
+    λ e. let yes = at-there .there .ensures .yes (at-if1 .if1 .taken) in (record { inside = omega (arith, yes); is = sym (at-get .get .ensures .0) ∙ at-if2 .if2 .left }, record { inside = omega (arith, yes); is = sym (c .get2 .ensures .0 ∙ ap (valueAt way 4 (units (at-args .args .src .now))) (at-past .past .ensures)) ∙ eqb-true _ _ e })
 
 returns-3 : tie.Need-returns-3
 returns-3 c = λ e. absurd (false≢true e)

@@ -1,10 +1,9 @@
 -- Made by tools/ways from crates/from_file_objects.
 use mathlib.Core.Path.{refl}
 use native.Mathlib.Omega.{arith}
-use Rattle.format.specs.LeafLaws.{known-below}
 use Rattle.ways.specs.Moves.{moved-ready}
 use Rattle.ways.specs.EndLaws.{zero-behind, newer-end, newer-end-nowhere}
-use Rattle.from_table.specs.Way.{unit}
+use Rattle.from_table.specs.Way.{units-below}
 use borrow.Author.Needs.{needs}
 use Rattle.from_table_objects.proofs.end.newer_end.Statement.{statement}
 use Rattle.from_table_objects.proofs.end.newer_end.Tie as tie
@@ -29,7 +28,7 @@ returns c =
     let at-shared-slice-known = at-end-is-plain .before .before in
     let at-args = at-shared-slice-known .before in
     let zero = at-end-is-plain .end-is-plain .ensures (at-if1 .if1 .taken) in
-    newer-end-nowhere (known-below unit (at-args .args .src .now) (at-shared-slice-known .shared-slice-known .given)) (at-args .args .version) (at-args .pre .0) (at-if2 .if2 .taken) (at-args .pre .1) (zero .0) (zero .1) refl refl (c .ahead .ensures)
+    newer-end-nowhere (units-below (at-args .args .src .now) (at-shared-slice-known .shared-slice-known .given)) (at-args .args .version) (at-args .pre .0) (at-if2 .if2 .taken) (at-args .pre .1) (zero .0) (zero .1) refl refl (c .ahead .ensures)
 
 keep-requires : tie.Need-keep-requires
 keep-requires c κs =
@@ -61,7 +60,7 @@ returns-2 c =
     let at-shared-slice-known = at-end-is-plain .before .before in
     let at-args = at-shared-slice-known .before in
     let zero = at-end-is-plain .end-is-plain .ensures (at-if1 .if1 .taken) in
-    newer-end (known-below unit (at-args .args .src .now) (at-shared-slice-known .shared-slice-known .given)) (at-args .pre .0) (zero .0) (at-keep .keep .ensures) (at-args .args .version) (at-args .pre .1) (zero .1) (at-keep2 .keep2 .ensures)
+    newer-end (units-below (at-args .args .src .now) (at-shared-slice-known .shared-slice-known .given)) (at-args .pre .0) (zero .0) (at-keep .keep .ensures) (at-args .args .version) (at-args .pre .1) (zero .1) (at-keep2 .keep2 .ensures)
 
 object-end-requires : tie.Need-object-end-requires
 object-end-requires c κs = search needs

@@ -1,9 +1,8 @@
 -- Made by tools/ways from crates/from_file_objects.
 use mathlib.Core.Path.{refl}
 use native.Mathlib.Omega.{arith}
-use Rattle.format.specs.LeafLaws.{known-below}
 use Rattle.ways.specs.EndLaws.{older-end}
-use Rattle.from_table.specs.Way.{unit}
+use Rattle.from_table.specs.Way.{units-below}
 use borrow.Author.Needs.{needs}
 use Rattle.from_table_objects.proofs.end.older_end.Statement.{statement}
 use Rattle.from_table_objects.proofs.end.older_end.Tie as tie
@@ -29,7 +28,7 @@ returns c =
     let at-flow-is-plain = at-if1 .before in
     let at-shared-slice-known = at-flow-is-plain .before .before in
     let at-args = at-shared-slice-known .before in
-    older-end (known-below unit (at-args .args .src .now) (at-shared-slice-known .shared-slice-known .given)) (at-args .pre .0) (at-flow-is-plain .flow-is-plain .ensures (at-if1 .if1 .taken)) (at-keep .keep .ensures) (at-args .args .version) (at-args .pre .1)
+    older-end (units-below (at-args .args .src .now) (at-shared-slice-known .shared-slice-known .given)) (at-args .pre .0) (at-flow-is-plain .flow-is-plain .ensures (at-if1 .if1 .taken)) (at-keep .keep .ensures) (at-args .args .version) (at-args .pre .1)
 
 object-end-requires : tie.Need-object-end-requires
 object-end-requires c κs = search needs

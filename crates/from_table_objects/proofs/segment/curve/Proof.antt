@@ -1,7 +1,6 @@
 -- Made by tools/ways from crates/from_file_objects.
-use Rattle.from_table.specs.Way.{unit}
+use Rattle.from_table.specs.Way.{units-below}
 use Rattle.ways.specs.SegmentLaws.{curve-letter, moved-spelled}
-use Rattle.format.specs.LeafLaws.{known-below}
 use native.Mathlib.Omega.{arith}
 use mathlib.Core.Path.{refl}
 use borrow.Author.Needs.{needs}
@@ -30,7 +29,7 @@ returns c =
     let at-shared-slice-known = at-there .before .before in
     let at-args = at-shared-slice-known .before in
     let yes = at-there .there .ensures .yes (at-if1 .if1 .taken) in
-    moved-spelled 0 3 (known-below unit (at-args .args .src .now) (at-shared-slice-known .shared-slice-known .given)) (omega arith) (at-args .pre .0) (omega (arith, yes)) (curve-letter (at-args .pre .1)) refl (at-keep-segment .keep-segment .ensures)
+    moved-spelled 0 3 (units-below (at-args .args .src .now) (at-shared-slice-known .shared-slice-known .given)) (omega arith) (at-args .pre .0) (omega (arith, yes)) (curve-letter (at-args .pre .1)) refl (at-keep-segment .keep-segment .ensures)
 
 each-requires : tie.Need-each-requires
 each-requires c κs = search needs

@@ -1,5 +1,5 @@
 -- Made by tools/ways from crates/from_file_objects.
-use Rattle.from_table.specs.Way.{way}
+use Rattle.from_table.specs.Way.{way, units}
 use Rattle.ways.specs.declared.Pass.{Pass}
 use Rattle.ways.specs.Moves.{moved-ready}
 use Rattle.ways.specs.SegmentLaws.{segment-nowhere, segment-moved}
@@ -47,7 +47,7 @@ keep-points-requires : tie.Need-keep-points-requires
 keep-points-requires c κs =
     let at-keep = c .before .before .before in
     let at-args = at-keep .before .before .before .before .before in
-    let some : at-args .args .at + 1 * sourceUnits way 2 ≤ length (at-args .args .src .now) = omega (arith, at-args .pre .1 .0) in
+    let some : at-args .args .at + 1 * sourceUnits way 2 ≤ length (units (at-args .args .src .now)) = omega (arith, at-args .pre .1 .0) in
     let next : at-keep .keep .result .at ≡ at-args .args .at + 1 * sourceUnits way 2 = ap (λ (q : Pass). q .at) (at-keep .keep .ensures .is) in
     (moved-ready 2 1 (at-args .pre .0) some (omega arith) (omega arith) (at-keep .keep .ensures), omega (arith, next, at-args .pre .1 .0))
 

@@ -1,9 +1,8 @@
 -- Made by tools/ways from crates/from_file_objects.
-use Rattle.from_table.specs.Way.{way, unit}
+use Rattle.from_table.specs.Way.{way, units, units-below}
 use Rattle.ways.specs.Segments.{straight, Letter}
 use Rattle.ways.specs.SegmentLaws.{straight-letter, moved-spelled}
 use Rattle.ways.specs.Way.{valueAt}
-use Rattle.format.specs.LeafLaws.{known-below}
 use native.Mathlib.Omega.{arith}
 use mathlib.Core.Path.{refl, sym, ap, _∙_}
 use borrow.Author.Needs.{needs}
@@ -29,7 +28,7 @@ keep-segment-requires c κs =
     let at-if1 = at-get .before in
     let at-there = at-if1 .before in
     let at-args = at-there .before .before .before in
-    let told : Letter (valueAt way 2 (at-args .args .src .now) (at-args .args .at)) 2 = straight-letter (ap straight (sym (at-get .get .ensures .0)) ∙ sym (at-is-straight .is-straight .ensures) ∙ at-if2 .if2 .taken) in
+    let told : Letter (valueAt way 2 (units (at-args .args .src .now)) (at-args .args .at)) 2 = straight-letter (ap straight (sym (at-get .get .ensures .0)) ∙ sym (at-is-straight .is-straight .ensures) ∙ at-if2 .if2 .taken) in
     let yes = at-there .there .ensures .yes (at-if1 .if1 .taken) in
     (at-args .pre, (omega (arith, yes), told .allowed .fits))
 
@@ -46,9 +45,9 @@ returns c =
     let at-there = at-if1 .before in
     let at-shared-slice-known = at-there .before .before in
     let at-args = at-shared-slice-known .before in
-    let told : Letter (valueAt way 2 (at-args .args .src .now) (at-args .args .at)) 2 = straight-letter (ap straight (sym (at-get .get .ensures .0)) ∙ sym (at-is-straight .is-straight .ensures) ∙ at-if2 .if2 .taken) in
+    let told : Letter (valueAt way 2 (units (at-args .args .src .now)) (at-args .args .at)) 2 = straight-letter (ap straight (sym (at-get .get .ensures .0)) ∙ sym (at-is-straight .is-straight .ensures) ∙ at-if2 .if2 .taken) in
     let yes = at-there .there .ensures .yes (at-if1 .if1 .taken) in
-    moved-spelled 0 1 (known-below unit (at-args .args .src .now) (at-shared-slice-known .shared-slice-known .given)) (omega arith) (at-args .pre) (omega (arith, yes)) told refl (at-keep-segment .keep-segment .ensures)
+    moved-spelled 0 1 (units-below (at-args .args .src .now) (at-shared-slice-known .shared-slice-known .given)) (omega arith) (at-args .pre) (omega (arith, yes)) told refl (at-keep-segment .keep-segment .ensures)
 
 curve-requires : tie.Need-curve-requires
 curve-requires c κs =

@@ -1,5 +1,5 @@
 -- Made by tools/ways from crates/from_file_objects.
-use Rattle.from_table.specs.Way.{way}
+use Rattle.from_table.specs.Way.{way, units}
 use Rattle.ways.specs.Carries.{Progress}
 use Rattle.ways.specs.LayoutLaws.{came-nowhere, came-on, came-refused, one-of, none-of}
 use Rattle.ways.specs.SegmentLaws.{free-laid, free-segments-laid}
@@ -16,7 +16,7 @@ use Rattle.from_table_objects.proofs.segment.segments.Tie as tie
 
 abbrev Inv-loop : tie.InvT-loop
 Inv-loop src dst₀ at to count behind₀ left₀ dst behind left =
-    Progress (λ K. repeat count (segment false none) ⟫ K) (λ K. repeat left (segment false none) ⟫ K) way src dst₀ dst at to (behind .at) (behind .to) × (length dst ≡ length dst₀)
+    Progress (λ K. repeat count (segment false none) ⟫ K) (λ K. repeat left (segment false none) ⟫ K) way (units src) dst₀ dst at to (behind .at) (behind .to) × (length dst ≡ length dst₀)
 
 abbrev μ-loop : tie.MeasureT-loop
 μ-loop src dst₀ at to count behind₀ left₀ dst behind left = left

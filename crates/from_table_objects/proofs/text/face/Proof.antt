@@ -1,10 +1,9 @@
 -- Made by tools/ways from crates/from_file_objects.
 use mathlib.Core.Path.{refl}
 use native.Mathlib.Omega.{arith}
-use Rattle.format.specs.LeafLaws.{known-below}
 use Rattle.ways.specs.NowhereLaws.{Grouped, ahead-small, moves-nowhere}
 use Rattle.ways.specs.TextLaws.{faceSizes, face-laid}
-use Rattle.from_table.specs.Way.{way, unit}
+use Rattle.from_table.specs.Way.{way, units-below}
 use borrow.Author.Needs.{needs}
 use Rattle.from_table_objects.proofs.text.face.Statement.{statement}
 use Rattle.from_table_objects.proofs.text.face.Tie as tie
@@ -35,7 +34,7 @@ returns c =
     let at-shared-slice-known = at-there .before .before in
     let at-args = at-shared-slice-known .before in
     let yes = at-there .there .ensures .yes (at-if1 .if1 .taken) in
-    let below = known-below unit (at-args .args .src .now) (at-shared-slice-known .shared-slice-known .given) in
+    let below = units-below (at-args .args .src .now) (at-shared-slice-known .shared-slice-known .given) in
     face-laid {W = way} (omega arith) below yes (at-face-good .face-good .ensures (at-if2 .if2 .taken)) (at-args .pre) (moves-nowhere grouped (at-if3 .if3 .taken) (c .ahead .ensures))
 
 keep-face-requires : tie.Need-keep-face-requires

@@ -7,7 +7,7 @@ use Rattle.format.specs.Kind.{Allowed}
 use Rattle.drawing.specs.Fields as F
 use Rattle.ways.specs.Way.{sourceUnits, valueAt}
 use Rattle.ways.specs.Faults.{byte-ranged}
-use Rattle.from_table.specs.Way.{way}
+use Rattle.from_table.specs.Way.{way, units}
 use borrow.Author.Needs.{needs}
 use Rattle.from_table_objects.proofs.text.face_good.Statement.{statement}
 use Rattle.from_table_objects.proofs.text.face_good.Tie as tie
@@ -55,8 +55,8 @@ returns-3 c =
     let behind : at-past2 .past2 .result ≡ at-args .args .at + (sourceUnits way 1 + sourceUnits way 1) = omega (arith, at-past2 .past2 .ensures) in
     λ e. record {
       shape = subst (Allowed (F.byteIn 0 1)) (at-get .get .ensures .0) shape;
-      series = subst (Allowed (F.byteIn 0 1)) (at-get2 .get2 .ensures .0 ∙ ap (valueAt way 1 (at-args .args .src .now)) (at-past .past .ensures)) series;
-      size = subst (Allowed F.fontSize) (at-get3 .get3 .ensures .0 ∙ ap (valueAt way 4 (at-args .args .src .now)) behind) (record { fits = omega (arith, small); faultless = ap (λ b. F.unless b 6) (sym (c .word-reaches .ensures) ∙ e) });
+      series = subst (Allowed (F.byteIn 0 1)) (at-get2 .get2 .ensures .0 ∙ ap (valueAt way 1 (units (at-args .args .src .now))) (at-past .past .ensures)) series;
+      size = subst (Allowed F.fontSize) (at-get3 .get3 .ensures .0 ∙ ap (valueAt way 4 (units (at-args .args .src .now))) behind) (record { fits = omega (arith, small); faultless = ap (λ b. F.unless b 6) (sym (c .word-reaches .ensures) ∙ e) });
     }
 
 pub face-good-spec : {M : Type 1} → statement M

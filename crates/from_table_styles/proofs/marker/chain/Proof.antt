@@ -1,5 +1,5 @@
 -- Made by tools/ways from crates/from_file_styles.
-use Rattle.from_table.specs.Way.{way}
+use Rattle.from_table.specs.Way.{way, units}
 use Rattle.ways.specs.MarkerLaws.{chain-ends, chain-goes-on, chain-over, arrow-marked, marker-marked}
 use Rattle.ways.specs.LayoutLaws.{came-nowhere, came-on}
 use Rattle.ways.specs.Carries.{Progress}
@@ -16,7 +16,7 @@ use Rattle.from_table_styles.proofs.marker.chain.Statement.{statement}
 use Rattle.from_table_styles.proofs.marker.chain.Tie as tie
 
 abbrev Inv-loop : tie.InvT-loop
-Inv-loop src dst₀ at to version high behind₀ left₀ dst behind left = Progress (λ K. markers version ⟫ K) (λ K. chain version left ⟫ K) way src dst₀ dst at to (behind .at) (behind .to) × (length dst ≡ length dst₀) × (high ≡ lastMarker version)
+Inv-loop src dst₀ at to version high behind₀ left₀ dst behind left = Progress (λ K. markers version ⟫ K) (λ K. chain version left ⟫ K) way (units src) dst₀ dst at to (behind .at) (behind .to) × (length dst ≡ length dst₀) × (high ≡ lastMarker version)
 
 abbrev μ-loop : tie.MeasureT-loop
 μ-loop src dst₀ at to version high behind₀ left₀ dst behind left = left

@@ -1,8 +1,7 @@
 -- Made by tools/ways from crates/from_file_styles.
-use Rattle.from_table.specs.Way.{way, unit}
+use Rattle.from_table.specs.Way.{way, units, units-below}
 use Rattle.ways.specs.MarkerLaws.{no-markers}
 use Rattle.ways.specs.Way.{valueAt}
-use Rattle.format.specs.LeafLaws.{known-below}
 use native.Mathlib.Omega.{arith}
 use mathlib.Core.Path.{_≡_, refl, sym, _∙_}
 use borrow.Author.Needs.{needs}
@@ -22,7 +21,7 @@ keep-requires c κs =
     let at-if1 = at-get .before in
     let at-there = at-if1 .before in
     let at-args = at-there .before .before .before in
-    let none : valueAt way 1 (at-args .args .src .now) (at-args .args .at) ≡ 0 = sym (at-get .get .ensures .0) ∙ at-if2 .if2 .taken in
+    let none : valueAt way 1 (units (at-args .args .src .now)) (at-args .args .at) ≡ 0 = sym (at-get .get .ensures .0) ∙ at-if2 .if2 .taken in
     (at-args .pre, (refl, at-there .there .ensures .yes (at-if1 .if1 .taken), omega (arith, none)))
 
 same-length : tie.Need-same-length
@@ -37,8 +36,8 @@ returns c =
     let at-there = at-if1 .before in
     let at-shared-slice-known = at-there .before .before in
     let at-args = at-shared-slice-known .before in
-    let none : valueAt way 1 (at-args .args .src .now) (at-args .args .at) ≡ 0 = sym (at-get .get .ensures .0) ∙ at-if2 .if2 .taken in
-    no-markers (at-args .args .version) (known-below unit (at-args .args .src .now) (at-shared-slice-known .shared-slice-known .given)) (at-args .pre) (at-there .there .ensures .yes (at-if1 .if1 .taken)) none (at-keep .keep .ensures)
+    let none : valueAt way 1 (units (at-args .args .src .now)) (at-args .args .at) ≡ 0 = sym (at-get .get .ensures .0) ∙ at-if2 .if2 .taken in
+    no-markers (at-args .args .version) (units-below (at-args .args .src .now) (at-shared-slice-known .shared-slice-known .given)) (at-args .pre) (at-there .there .ensures .yes (at-if1 .if1 .taken)) none (at-keep .keep .ensures)
 
 chain-requires : tie.Need-chain-requires
 chain-requires c κs = search needs

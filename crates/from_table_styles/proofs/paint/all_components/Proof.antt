@@ -1,5 +1,5 @@
 -- Made by tools/ways from crates/from_file_styles.
-use Rattle.from_table.specs.Way.{way}
+use Rattle.from_table.specs.Way.{way, units}
 use Rattle.ways.specs.Moves.{AllAllowed}
 use Rattle.ways.specs.Way.{sourceUnits, valueAt}
 use Rattle.drawing.specs.Fields as F
@@ -13,7 +13,7 @@ use Rattle.from_table_styles.proofs.paint.all_components.Statement.{sta
 use Rattle.from_table_styles.proofs.paint.all_components.Tie as tie
 
 abbrev Inv-loop : tie.InvT-loop
-Inv-loop src from count i₀ i = (i ≤ count) × AllAllowed way F.component 4 i src from
+Inv-loop src from count i₀ i = (i ≤ count) × AllAllowed way F.component 4 i (units src) from
 
 abbrev μ-loop : tie.MeasureT-loop
 μ-loop src from count i₀ i = count - i
@@ -68,10 +68,10 @@ loop-again c =
     let at-loop-test = at-source-units .before in
     let at-loop = at-loop-test .before in
     let at-args = at-loop .before .before in
-    let is : at-get .get .result ≡ valueAt way 4 (at-args .args .src .now) (at-args .args .from + at-loop .loop .i * sourceUnits way 4) = rw (at-source-units .source-units .ensures) at (at-get .get .ensures .0) in
+    let is : at-get .get .result ≡ valueAt way 4 (units (at-args .args .src .now)) (at-args .args .from + at-loop .loop .i * sourceUnits way 4) = rw (at-source-units .source-units .ensures) at (at-get .get .ensures .0) in
     let small = at-get .get .ensures .1 in
     let this : Allowed F.component (at-get .get .result) = record { fits = omega (arith, small); faultless = ap (λ b. F.unless b 9) (sym (at-is-component .is-component .ensures) ∙ c .if1 .taken) } in
-    (omega (arith, at-loop-test .loop-test .taken), record { each = below-more (λ j. Allowed F.component (valueAt way 4 (at-args .args .src .now) (at-args .args .from + j * sourceUnits way 4))) (at-loop .loop .i) (at-loop .loop .inv .1 .each) (subst (Allowed F.component) is this) })
+    (omega (arith, at-loop-test .loop-test .taken), record { each = below-more (λ j. Allowed F.component (valueAt way 4 (units (at-args .args .src .now)) (at-args .args .from + j * sourceUnits way 4))) (at-loop .loop .i) (at-loop .loop .inv .1 .each) (subst (Allowed F.component) is this) })
 
 returns : tie.Need-returns Inv-loop μ-loop
 returns c = λ e. absurd (false≢true e)
@@ -81,7 +81,7 @@ returns-2 c =
     let at-loop = c .before in
     let at-args = at-loop .before .before in
     let all : at-loop .loop .i ≡ at-args .args .count = omega (arith, at-loop .loop .inv .0, c .loop-test .left) in
-    λ e. subst (λ n. AllAllowed way F.component 4 n (at-args .args .src .now) (at-args .args .from)) all (at-loop .loop .inv .1)
+    λ e. subst (λ n. AllAllowed way F.component 4 n (units (at-args .args .src .now)) (at-args .args .from)) all (at-loop .loop .inv .1)
 
 pub all-components-spec : {M : Type 1} → statement M
 all-components-spec =

@@ -1,5 +1,5 @@
 -- Made by tools/ways from crates/from_file_styles.
-use Rattle.from_table.specs.Way.{way}
+use Rattle.from_table.specs.Way.{way, units}
 use Rattle.ways.specs.Moves.{AllAllowed}
 use Rattle.ways.specs.Way.{sourceUnits, valueAt}
 use Rattle.drawing.specs.Fields as F
@@ -35,11 +35,11 @@ returns c =
     let at-get = at-is-hue .before in
     let at-past = at-get .before in
     let at-args = at-past .before .before in
-    let is : at-get .get .result ≡ valueAt way 4 (at-args .args .src .now) (at-args .args .at + sourceUnits way 2) = at-get .get .ensures .0 ∙ ap (valueAt way 4 (at-args .args .src .now)) (at-past .past .ensures) in
+    let is : at-get .get .result ≡ valueAt way 4 (units (at-args .args .src .now)) (at-args .args .at + sourceUnits way 2) = at-get .get .ensures .0 ∙ ap (valueAt way 4 (units (at-args .args .src .now))) (at-past .past .ensures) in
     let small = at-get .get .ensures .1 in
     let this : Allowed F.hue (at-get .get .result) = record { fits = omega (arith, small); faultless = ap (λ b. F.unless b 9) (sym (at-is-hue .is-hue .ensures) ∙ at-if1 .if1 .taken) } in
     let there : at-past2 .past2 .result ≡ at-args .args .at + sourceUnits way 2 + sourceUnits way 4 = omega (arith, at-past2 .past2 .ensures) in
-    λ e. (subst (Allowed F.hue) is this, subst (AllAllowed way F.component 4 3 (at-args .args .src .now)) there (c .all-components .ensures e))
+    λ e. (subst (Allowed F.hue) is this, subst (AllAllowed way F.component 4 3 (units (at-args .args .src .now))) there (c .all-components .ensures e))
 
 returns-2 : tie.Need-returns-2
 returns-2 c = λ e. absurd (false≢true e)

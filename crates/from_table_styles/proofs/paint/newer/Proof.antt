@@ -1,8 +1,7 @@
 -- Made by tools/ways from crates/from_file_styles.
-use Rattle.from_table.specs.Way.{way, unit}
+use Rattle.from_table.specs.Way.{way, units, units-below}
 use Rattle.ways.specs.PaintLaws.{letterFault, grey-led, hsb-led, plain-refused, no-letter}
 use Rattle.ways.specs.Way.{valueAt}
-use Rattle.format.specs.LeafLaws.{known-below}
 use mathlib.Core.Path.{_≡_, sym, ap, _∙_}
 use borrow.Author.Needs.{needs}
 use Rattle.from_table_styles.proofs.paint.newer.Statement.{statement}
@@ -20,7 +19,7 @@ returns c =
     let at-color = at-before .before in
     let at-if1 = at-color .before .before in
     let at-args = at-if1 .before .before .before in
-    let is : valueAt way 2 (at-args .args .src .now) (at-args .args .at) ≡ 89 = sym (at-args .pre .1 .1) ∙ at-if1 .if1 .taken in
+    let is : valueAt way 2 (units (at-args .args .src .now)) (at-args .args .at) ≡ 89 = sym (at-args .pre .1 .1) ∙ at-if1 .if1 .taken in
     grey-led (at-args .args .version) (at-args .pre .1 .2) is (at-color .color .ensures)
 
 hsb-requires : tie.Need-hsb-requires
@@ -35,7 +34,7 @@ returns-2 c =
     let at-hsb = at-before .before in
     let at-if2 = at-hsb .before .before in
     let at-args = at-if2 .before .before .before .before in
-    let is : valueAt way 2 (at-args .args .src .now) (at-args .args .at) ≡ 83 = sym (at-args .pre .1 .1) ∙ at-if2 .if2 .taken in
+    let is : valueAt way 2 (units (at-args .args .src .now)) (at-args .args .at) ≡ 83 = sym (at-args .pre .1 .1) ∙ at-if2 .if2 .taken in
     hsb-led (at-args .args .version) (at-args .pre .1 .2) is (at-hsb .hsb .ensures)
 
 refusal-requires : tie.Need-refusal-requires
@@ -47,7 +46,7 @@ returns-3 c =
     let at-if1 = at-if2 .before in
     let at-shared-slice-known = at-if1 .before .before in
     let at-args = at-shared-slice-known .before in
-    plain-refused (at-args .args .version) (known-below unit (at-args .args .src .now) (at-shared-slice-known .shared-slice-known .given)) (at-args .pre .0) (at-args .pre .1 .0) (ap (letterFault (at-args .args .version)) (sym (at-args .pre .1 .1)) ∙ no-letter (at-args .args .version) (at-args .args .letter) (at-args .pre .1 .3) (at-args .pre .1 .4) (at-args .pre .1 .5) (λ new. (at-if1 .if1 .left, at-if2 .if2 .left))) (c .refusal .ensures)
+    plain-refused (at-args .args .version) (units-below (at-args .args .src .now) (at-shared-slice-known .shared-slice-known .given)) (at-args .pre .0) (at-args .pre .1 .0) (ap (letterFault (at-args .args .version)) (sym (at-args .pre .1 .1)) ∙ no-letter (at-args .args .version) (at-args .args .letter) (at-args .pre .1 .3) (at-args .pre .1 .4) (at-args .pre .1 .5) (λ new. (at-if1 .if1 .left, at-if2 .if2 .left))) (c .refusal .ensures)
 
 pub newer-spec : {M : Type 1} → statement M
 newer-spec =

@@ -7,7 +7,7 @@ use Rattle.places.proofs.end.end_of.Reads as reads
 use Rattle.places.proofs.end.end_of.Lts as lts
 use Rattle.places.proofs.behind.behind.Reads as behind-reads
 use Rattle.rows.proofs.look.kind_in.Reads as kind-in-reads
-use Rattle.rows.proofs.look.letter_of.Reads as letter-of-reads
+use Rattle.rows.proofs.kind.letter_of.Reads as letter-of-reads
 use Rattle.rows.proofs.look.start_in.Reads as start-in-reads
 
 kind-in-requires : tie.Need-kind-in-requires

@@ -7,10 +7,6 @@ use Rattle.table.specs.AnswerLaws.{long-refused, walk-refused, walk-smal
 use borrow.Author.Needs.{needs}
 use Rattle.table.proofs.answers.check.Statement.{statement}
 use Rattle.table.proofs.answers.check.Tie as tie
-use Rattle.table.proofs.answers.check.Reads as reads
-use Rattle.table.proofs.answers.check.Lts as lts
-use Rattle.table.proofs.answers.no_table.Reads as no-table-reads
-use Rattle.table.proofs.file.walk_table.Reads as walk-table-reads
 
 mul-if1 : tie.Need-mul-if1
 mul-if1 c = search needs

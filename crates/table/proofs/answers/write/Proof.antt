@@ -6,10 +6,6 @@ use mir.Syntax.{w32}
 use borrow.Author.Needs.{needs}
 use Rattle.table.proofs.answers.write.Statement.{statement}
 use Rattle.table.proofs.answers.write.Tie as tie
-use Rattle.table.proofs.answers.write.Reads as reads
-use Rattle.table.proofs.answers.write.Lts as lts
-use Rattle.table.proofs.answers.check.Reads as check-reads
-use Rattle.table.proofs.file.walk_table.Reads as walk-table-reads
 
 check-requires : tie.Need-check-requires
 check-requires c κs = search needs

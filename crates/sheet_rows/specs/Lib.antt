@@ -1,0 +1,2 @@
+-- What a sheet's contents hold.
+pub mod Cells

@@ -1,0 +1,2 @@
+// Rows that lie in a sheet's bytes.
+pub mod look;
