@@ -23,6 +23,7 @@ pub mod LeafLayout
 pub mod ObjectLaws
 pub mod ObjectLayout
 pub mod Drawing
+pub mod NormalForm
 pub mod Refusal
 pub mod Table
 pub mod Order

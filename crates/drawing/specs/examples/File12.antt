@@ -24,8 +24,8 @@ use Rattle.drawing.specs.Drawing.{Drawing}
 use Rattle.drawing.specs.Order.{entries, groupsAround}
 use Rattle.drawing.specs.Answers.{answer}
 use Rattle.drawing.specs.Computed.{readResult, checkAnswer, listOutput, paintAnswer, textAnswer}
-use Rattle.drawing.specs.examples.Whole.{Whole}
-use Rattle.drawing.specs.examples.Bytes.{Item, byte, flag, int, float, double, char, string, coded, codes, bytes, words, floats, doubles, head, at}
+use Rattle.drawing.specs.examples.Whole.{Whole, Respelled}
+use Rattle.drawing.specs.examples.Bytes.{Item, byte, flag, int, float, double, char, string, coded, codes, bytes, words, floats, doubles, head, at, otherwise}
 
 -- ---- the settings
 
@@ -152,10 +152,9 @@ linkedValue =
 
 -- ---- the file: groups are rows 0, 2, 3 and 4, with the descriptions top, a lone surrogate with a second char, x and y
 
-abbrev file : List ℕ
-file =
-    bytes
-    (head "2" ++ settingsFields
+abbrev items : List Item
+items =
+    head "2" ++ settingsFields
     ++ char "G" ∷ int 3 ∷ char "I" ∷ bitmapFields
     ++ char "G" ∷ int 2
     ∷ char "G" ∷ int 2
@@ -163,7 +162,10 @@ file =
     ++ flag 0 ∷ string "y" ∷ char "P" ∷ markedFields
     ++ flag 0 ∷ string "x" ∷ char "T" ∷ plainFields
     ++ flag 0 ∷ coded (0xD800 ∷ 0xFFFF ∷ []) ∷ char "I" ∷ linkedFields
-    ++ flag 0 ∷ string "top" ∷ [])
+    ++ flag 0 ∷ string "top" ∷ []
+
+abbrev file : List ℕ
+file = bytes items
 
 abbrev tree : Drawing
 tree =
@@ -211,6 +213,10 @@ bodies =
 whole : Whole file tree contents bodies
 unfolding fromZeroTo le ofInt ofBits
 whole = record { reads = refl; writes = refl; rows = refl; words = refl; back = refl }
+
+respelled : Respelled (bytes (map otherwise items)) file tree
+unfolding fromZeroTo le ofInt ofBits
+respelled = record { reads = refl; made = refl }
 
 -- ---- answers
 
