@@ -2,6 +2,7 @@
 -- table. A call answers 0 exactly when its definition says so, and then with the drawing's own counts.
 use mathlib.Core.Path.{_≡_, refl, sym, ap, ap₂, _∙_, subst}
 use mathlib.Core.Logic.{_↔_}
+use mathlib.Core.Bool.{Bool, true, false}
 use mathlib.Core.Option.{Option, none, some}
 use Prim.Native.Nat.{ℕ, zero, suc, _*_, _/_, _^_, _≤_}
 use mathlib.Core.List.{List}
@@ -20,7 +21,8 @@ use Rattle.format.specs.Format.{fields}
 use Rattle.drawing.specs.Drawing.{Drawing, outer, file as fileLayout, fileOf, IsFile}
 use Rattle.drawing.specs.NormalForm.{normalForm}
 use Rattle.drawing.specs.Reading.{Reading, drawing, refusal, drawingOf}
-use Rattle.laws.specs.DrawingLaws.{own-file, file-length, drawing-of-bytes, refusal-positive}
+use Rattle.laws.specs.DrawingLaws.{own-file, file-length, drawing-of-bytes, refusal-of-bytes, refusal-positive}
+use Rattle.laws.specs.NumberLaws.{refusal-numbers}
 use Rattle.laws.specs.NormalFormLaws.{normal-form-is}
 use Rattle.drawing.specs.Table.{IsTable, headWords, contentsOf, bodiesOf}
 use Rattle.drawing.specs.TableDrawing.{drawingOfTable}
@@ -75,6 +77,23 @@ read-accepts file contents bodies b = (there (drawingOf file) refl, back)
 
     back : Accepted file contents bodies → readResult file contents bodies .answer .number ≡ 0
     back a = ap (λ r. r .answer .number) (read-gives file contents bodies b a)
+
+-- No answer is 5: in a file a flag's byte is true or false, whatever it is.
+pub read-never-five : (file contents bodies : List ℕ) → Below 256 file → readResult file contents bodies .answer .number ≡ 5 → ⊥
+read-never-five file contents bodies b = by (drawingOf file) refl
+  where
+    number-is : (f : ℕ) (d : Drawing) → stored f d (length file) contents bodies .answer .number ≡ f
+    number-is zero d = refl
+    number-is (suc n) d = refl
+
+    no-room : (s t : Bool) → orElse (unless s 14) (unless t 15) ≡ 5 → ⊥
+    no-room true true e = omega arith
+    no-room true false e = omega arith
+    no-room false t e = omega arith
+
+    by : (r : Reading) → drawingOf file ≡ r → readFrom r (length file) contents bodies .answer .number ≡ 5 → ⊥
+    by (refusal n o) p e = refusal-numbers file b n o (refusal-of-bytes file b n o .0 p) .1 e
+    by (drawing d) p e = no-room (leb (rowsOf d) (length contents / 4)) (leb (wordCount d) (length bodies)) (sym (number-is (roomFault d contents bodies) d) ∙ e)
 
 -- ---- writing
 

@@ -27,6 +27,5 @@ pub mod AnswerLaws
 pub mod RoomLaws
 pub mod ParseLaws
 pub mod FileParseLaws
-pub mod ReadingLaws
 pub mod SheetNumberLaws
 pub mod SheetLaws

@@ -3,7 +3,7 @@ use mathlib.Core.Path.{_≡_, refl, sym, ap, _∙_}
 use mathlib.Core.Logic.{_⊎_, inl, inr}
 use mathlib.Core.Bool.{Bool, true, false, cond, not, _&&_, _||_}
 use mathlib.Core.Option.{Option, none, some}
-use Prim.Native.Nat.{ℕ, zero, suc, _+_, _%_, _^_, _<_, _≤_}
+use Prim.Native.Nat.{ℕ, zero, suc, _+_, _-_, _%_, _^_, _<_, _≤_}
 use Prim.Native.Char.{code}
 use native.Mathlib.Omega.{arith}
 use mathlib.Core.List.{List, [], _∷_}
@@ -23,7 +23,7 @@ use Rattle.format.specs.EveryLaws.{Every, every-field}
 use Rattle.format.specs.FloatRange.{fromZeroTo, fromZeroBelow}
 use Rattle.format.specs.Layout.{field, when, _&_}
 use Rattle.format.specs.Alternative.{among, chosen}
-use Rattle.drawing.specs.Limits.{lastMinor, markerLimit}
+use Rattle.drawing.specs.Limits.{lastMinor, depthLimit, markerLimit}
 use Rattle.drawing.specs.Codecs.{meant, byteFields}
 use Rattle.drawing.specs.Reading.{refusal, drawingOf}
 use Rattle.drawing.specs.Fields as F
@@ -219,7 +219,7 @@ file = (
     λ v. unless-mild (eqb v 3) 4 refl,
     λ l. (
       λ c. unless-mild (leb F.versionZero c && leb c (F.versionZero + lastMinor)) 4 refl,
-      λ v. (settings v, λ s. (char (λ c. eqb c (code "G")), λ c. ((count 0, λ n t. object v 15), λ os. objectEnd v))),
+      λ v. (settings v, λ s. (char (λ c. eqb c (code "G")), λ c. ((count 0, λ n t. object v (depthLimit - 1)), λ os. objectEnd v))),
     ),
   ),
 )
@@ -249,7 +249,7 @@ refusal-numbers bs below n offset (inr (inl h)) =
     told n e =
         let both = and-both (leb n 12) (not (eqb n 5)) e in
         let small = leb-true n 12 (both .0) in
-        (omega arith, λ is. let z : _≡_ {A = Bool} false true = sym (ap (λ t. not t) (eq-eqb n 5 is)) ∙ both .1 in absurd (omega (arith, ap (λ (b : Bool). cond b 1 0) z)))
+        (omega arith, λ is. let z : _≡_ {A = Bool} false true = sym (ap (λ t. not t) (eq-eqb n 5 is)) ∙ both .1 in let n : _≡_ {A = ℕ} 0 1 = cc in omega arith)
 
 pub number-small : (bs : List ℕ) → Below 256 bs → (n offset : ℕ) → drawingOf bs ≡ refusal n offset → n ≤ 13
 number-small bs below n offset e = refusal-numbers bs below n offset (refusal-of-bytes bs below n offset .0 e) .0
