@@ -35,6 +35,7 @@ pub mod Reading
 pub mod TableDrawing
 pub mod SheetDrawing
 pub mod KindLaws
+pub mod FlagLaws
 pub mod Computed
 pub mod MarkedPlans
 pub mod examples

@@ -17,7 +17,7 @@ use Rattle.format.specs.Format.{fields}
 use Rattle.drawing.specs.Codecs.{truth, meant, byteFields}
 use Rattle.drawing.specs.Drawing.{Drawing, file, fileOf}
 use Rattle.drawing.specs.NormalForm.{fieldMade, flagsMade, normalForm, FlagsPlain, Normal}
-use Rattle.laws.specs.CodecLaws.{flag-size}
+use Rattle.drawing.specs.FlagLaws.{flag-size}
 
 -- ---- one field
 

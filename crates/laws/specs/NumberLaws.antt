@@ -45,7 +45,7 @@ use Rattle.drawing.specs.ObjectLayout as Object
 use Rattle.drawing.specs.Settings as Settings
 use Rattle.drawing.specs.Drawing as Drawing
 use Rattle.drawing.specs.Refusal.{Refused}
-use Rattle.laws.specs.CodecLaws.{meant-fits}
+use Rattle.drawing.specs.FlagLaws.{meant-fits}
 use Rattle.laws.specs.DrawingLaws.{refusal-of-bytes}
 
 -- A fault of a file's field, or none.
