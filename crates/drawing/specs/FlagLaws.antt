@@ -44,6 +44,10 @@ meant-fits stringLength x h = h
 meant-fits (stringChar last) x h = h
 meant-fits (chars n) x h = h
 
+pub truth-one : (x : ℕ) → (x ≡ 0 → ⊥) → truth x ≡ 1
+truth-one zero other = absurd (other refl)
+truth-one (suc n) other = refl
+
 -- A number of a field that is no flag stands for itself.
 pub meant-plain : (s : Shape) (x : ℕ) → isFlag s ≡ false → meant s x ≡ x
 meant-plain s x f = ap (λ b. cond b (truth x) x) f

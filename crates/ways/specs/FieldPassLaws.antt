@@ -1,5 +1,5 @@
 -- One field, as a function passes it: asked whether it is there, taken, judged, and kept or refused; or cut. And what the kinds of field are judged by.
-use mathlib.Core.Path.{_≡_, refl, sym, ap, _∙_, fun-ext}
+use mathlib.Core.Path.{_≡_, refl, sym, ap, _∙_, subst, fun-ext}
 use mathlib.Core.Logic.{_⊎_, inl, inr}
 use mathlib.Core.Bool.{Bool, true, false, cond, not, _&&_, _||_}
 use Prim.Native.Nat.{ℕ, zero, suc, _+_, _-_, _^_, _<_, _≤_}
@@ -167,8 +167,10 @@ joined-ranged bits fits =
 abbrev pub flagKind : ℕ → Kind
 flagKind fault = record { shape = Kinds.flag; fault = λ v. unless (eqb v 0) fault }
 
-pub any-flag : flagKind 0 ≡ F.flag
-any-flag = ap (λ f. record { shape = Kinds.flag; fault = f }) (fun-ext (λ v. none (eqb v 0)))
+-- Any flag is one that has none.
+pub any-flag : {W : Way} {us m m′ : List ℕ} {at to : ℕ} {r : FieldPass} → Asked (flagKind 0) W us m m′ at to r → Asked F.flag W us m m′ at to r
+any-flag {W} {us} {m} {m′} {at} {to} {r} asked =
+    subst (λ f. Asked (record { shape = Kinds.flag; fault = f }) W us m m′ at to r) (fun-ext (λ v. none (eqb v 0))) asked
   where
     none : (t : Bool) → unless t 0 ≡ 0
     none true = refl
