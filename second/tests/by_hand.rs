@@ -94,14 +94,10 @@ fn head_refusals() {
     assert_eq!(with(&file, 6, &[255; 4]), (4, 6));
     assert_eq!(with(&file, 6, &[0, 0, 0, 2]), (4, 6));
     assert_eq!(with(&file, 15, b"9"), (4, 10));
-    assert_eq!(with(&file, 16, &[2]), (5, 16));
-    assert_eq!(with(&file, 17, &[2]), (5, 17));
-    assert_eq!(with(&file, 19, &[255]), (5, 19));
     assert_eq!(with(&file, 20, &[0, 0, 0, 8]), (6, 20));
     assert_eq!(with(&file, 20, &[255; 4]), (6, 20));
     assert_eq!(with(&file, 28, &[19]), (6, 28));
     assert_eq!(with(&file, 28, &[200]), (6, 28));
-    assert_eq!(with(&file, 45, &[2]), (5, 45));
     assert_eq!(with(&file, 46, &[4]), (6, 46));
     assert_eq!(with(&file, 55, b"\0P"), (7, 55));
     assert_eq!(with(&file, 55, b"\0X"), (7, 55));
@@ -121,7 +117,8 @@ fn settings_from_1_3_are_a_byte() {
     assert_eq!(answer(&end(rest(Hand::head("1.3").byte(2).byte(73)))), (6, 17));
     assert_eq!(answer(&end(rest(Hand::head("1.3").byte(2).byte(18).double(1.0).double(2.0)))), (0, 107));
     assert_eq!(answer(&end(rest(Hand::head("1.3").byte(3)))), (6, 16));
-    assert_eq!(answer(&end(rest(Hand::head("1.2").byte(2).byte(17)))), (5, 16));
+    // Below 1.3 a 2 is true, so the 17 is the grid and the G stands where lock and rulers do.
+    assert_eq!(answer(&end(rest(Hand::head("1.2").byte(2).byte(17)))), (7, 38));
 }
 
 #[test]
@@ -138,9 +135,9 @@ fn a_field_of_several_chars_is_cut_at_its_start() {
 #[test]
 fn an_earlier_fault_comes_before_a_later_cut() {
     let mut file = plan_a();
-    file[16] = 2;
-    assert_eq!(answer(&file[..17]), (5, 16));
-    assert_eq!(answer(&file[..16]), (2, 16));
+    file[18] = b'T';
+    assert_eq!(answer(&file[..19]), (7, 17));
+    assert_eq!(answer(&file[..18]), (2, 17));
 }
 
 #[test]
@@ -167,9 +164,21 @@ fn each_double_of_a_transformation_is_a_field() {
 #[test]
 fn flow_flags() {
     assert_eq!(with(&plan_a(), 80, &[1]), (11, 80));
-    assert_eq!(with(&plan_a(), 80, &[2]), (5, 80));
+    assert_eq!(with(&plan_a(), 80, &[2]), (11, 80));
     assert_eq!(with(&plan_a(), 81, &[1]), (11, 81));
-    assert_eq!(with(&plan_a(), 81, &[128]), (5, 81));
+    assert_eq!(with(&plan_a(), 81, &[128]), (11, 81));
+}
+
+/// 'Any byte that is not 0 is true': settings, grid, rulers and portrait.
+#[test]
+fn true_flags() {
+    let file = text_1_2();
+    let length = file.len() as u32;
+    for place in [16, 17, 19, 45] {
+        for byte in [1, 2, 127, 128, 255] {
+            assert_eq!(with(&file, place, &[byte]), (0, length));
+        }
+    }
 }
 
 #[test]
