@@ -249,12 +249,12 @@ fn paint_and_marker_refusals_of_1_4() {
     assert_eq!(with(&file, 88, &[80]), (6, 88));
     assert_eq!(with(&file, 93, &[0]), (6, 93));
     assert_eq!(with(&file, 93, &[4]), (6, 93));
-    assert_eq!(with(&file, 94, &[2]), (5, 94));
-    assert_eq!(with(&file, 95, &[2]), (5, 95));
+    assert_eq!(with(&file, 94, &[2]), (0, 196));
+    assert_eq!(with(&file, 95, &[2]), (7, 96), "no angle, so the paint's char is wanted");
     assert_eq!(with(&file, 100, b"\0G"), (7, 100), "no gradient in a marker");
-    assert_eq!(with(&file, 102, &[2]), (5, 102));
-    assert_eq!(with(&file, 103, &[2]), (5, 103));
-    assert_eq!(with(&file, 108, &[7]), (5, 108));
+    assert_eq!(with(&file, 102, &[2]), (6, 108), "no offsets, so a marker of id 1 is wanted: its repeat");
+    assert_eq!(with(&file, 103, &[2]), (0, 196));
+    assert_eq!(with(&file, 108, &[7]), (6, 118), "an offset, and then a marker: its repeat");
     assert_eq!(with(&file, 185, &[255; 4]), (8, 185), "a negative description length");
 }
 
@@ -266,7 +266,7 @@ fn text_refusals() {
     assert_eq!(with(&file, 72, &[2]), (6, 72));
     assert_eq!(with(&file, 73, &[255; 4]), (6, 73), "a font size below 0");
     assert_eq!(with(&file, 73, &[0; 4]), (0, 192));
-    assert_eq!(with(&file, 125, &[2]), (5, 125));
+    assert_eq!(with(&file, 125, &[2]), (0, 192));
     assert_eq!(with(&file, 144, &[3]), (6, 144));
     assert_eq!(with(&file, 145, &[4]), (6, 145));
     assert_eq!(with(&file, 146, &[255; 4]), (8, 146));
@@ -297,7 +297,7 @@ fn refusals_in_a_text_along_a_path() {
     assert_eq!(with(&file, 41, &[2]), (6, 41));
     assert_eq!(with(&file, 42, &[2]), (6, 42));
     assert_eq!(with(&file, 43, &[255; 4]), (6, 43));
-    assert_eq!(with(&file, 95, &[2]), (5, 95));
+    assert_eq!(with(&file, 95, &[2]), (0, 200));
     assert_eq!(with(&file, 114, &[3]), (6, 114));
     assert_eq!(with(&file, 115, &[4]), (6, 115));
     assert_eq!(with(&file, 116, &[255; 4]), (8, 116));
@@ -310,7 +310,7 @@ fn refusals_in_a_text_along_a_path() {
     assert_eq!(with(&file, 136, &[255; 8]), (0, 200), "no start has to join");
     assert_eq!(with(&file, 152, b"\0X"), (7, 152));
     assert_eq!(with(&file, 188, &[1]), (11, 188));
-    assert_eq!(with(&file, 188, &[2]), (5, 188));
+    assert_eq!(with(&file, 188, &[2]), (11, 188));
     assert_eq!(with(&file, 189, &[255; 4]), (8, 189));
 }
 
@@ -333,7 +333,7 @@ fn the_smallest_file() {
     assert_eq!(with(&file, 19, &[128, 0, 0, 0]), (8, 19));
     assert_eq!(with(&file, 19, &[0, 0, 0, 1]), (2, 23), "an id char is wanted");
     assert_eq!(with(&file, 23, &[1]), (11, 23));
-    assert_eq!(with(&file, 23, &[2]), (5, 23));
+    assert_eq!(with(&file, 23, &[2]), (11, 23));
     assert_eq!(with(&file, 15, b"2"), (2, 24), "a description is wanted");
 }
 
@@ -353,7 +353,7 @@ fn refusals_around_empty_groups() {
     assert_eq!(with(&file, 42, &[0; 4]), (2, 51 + (84 - 51) / 2 * 2));
     assert_eq!(with(&file, 19, &[0, 0, 0, 2]), (2, 73 + (84 - 73) / 2 * 2));
     assert_eq!(with(&file, 29, &[1]), (11, 29));
-    assert_eq!(with(&file, 52, &[2]), (5, 52));
+    assert_eq!(with(&file, 52, &[2]), (11, 52));
     assert_eq!(with(&file, 53, &[255; 4]), (8, 53));
     assert_eq!(answer(&file[..29]), (2, 29));
     assert_eq!(answer(&file[..38]), (2, 38), "a char of the description");

@@ -14,7 +14,8 @@ use second::version::Version;
 use second::{check, read, table, write};
 
 fn drawings() -> Vec<Drawing> {
-    let of = |version| (0..20).map(move |seed| generate::drawing(seed, version, 600)).chain([sampler(3, version)]);
+    let of =
+        |version| (0..20).map(move |seed| generate::drawing(seed, version, 600)).chain([sampler(3, version)]);
     Version::ALL.into_iter().flat_map(of).collect()
 }
 
@@ -46,6 +47,10 @@ fn the_cases_have_every_sort_of_flag_in_every_version() {
             let [case] = such[..] else { panic!("{what}: {} cases", such.len()) };
             let drawing = read::drawing(&case.data).unwrap();
             assert_eq!(case.data.iter().zip(&write::file(&drawing)).filter(|(a, b)| a != b).count(), 1);
+        }
+        for byte in TRUE_BYTES {
+            let what = format!("1.{}: 11: flow flag of {byte} at ", version.minor());
+            assert!(cases.iter().any(|case| case.name.starts_with(&what)), "{what}");
         }
     }
 }

@@ -68,6 +68,10 @@ inRange low high z = leZ (pos low) z && leZ z (pos high)
 abbrev pub byteIn : ℕ → ℕ → Kind
 byteIn low high = record { shape = K.byte; fault = λ v. unless (inRange low high (toZ w8 v)) outOfRange }
 
+-- a byte and no flag: a 2 is no winding
+abbrev pub windingRule : Kind
+windingRule = byteIn 0 1
+
 abbrev pub integer : Kind
 integer = any K.integer
 

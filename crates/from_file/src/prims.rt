@@ -59,10 +59,10 @@ pub fn get_flag(src: &[Unit], at: usize) -> u64
     requires { ⌜ at + sourceUnits way 1 ≤ length (units (now src)) ⌝ }
     ensures { λ r. ⌜ (r ≡ way .source .meant flag (valueAt way 1 (units (now (src .entry))) at)) × (r < way .source .base ^ sourceUnits way 1) ⌝ }
 {
-    if src[at] == 0 {
-        return 0;
+    if src[at] != 0 {
+        return 1;
     }
-    1
+    0
 }
 
 pub fn put(dst: &mut [Kept], to: usize, size: usize, value: u64)

@@ -41,7 +41,7 @@ pub fn random_bytes(random: &mut Random, count: usize) -> Vec<u8> {
 
 /// A file damaged in one way or another; its fields are those of the good file.
 pub fn any(random: &mut Random, file: &[u8], fields: &[Field]) -> Vec<u8> {
-    match random.below(16) {
+    match random.below(17) {
         0 | 1 => file[..random.within(0, file.len())].to_vec(),
         2 => one_byte(random, file),
         3 => {
@@ -57,6 +57,7 @@ pub fn any(random: &mut Random, file: &[u8], fields: &[Field]) -> Vec<u8> {
         }
         8 => head_and_noise(random, file),
         9 => other_version(random, file, fields),
+        10 => respelled(random, file, fields),
         _ => one_fault(random, file, fields),
     }
 }

@@ -1,7 +1,7 @@
 //! Damage to tables.
 
-use super::fields::{words, Field};
 use super::faults::word_faults;
+use super::fields::{words, Field};
 use crate::random::Random;
 use crate::table::{Table, ROW};
 use crate::version::Version;

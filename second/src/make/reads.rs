@@ -138,7 +138,7 @@ fn empty_groups(files: &mut Files, seed: u64) {
 /// The bytes that each sort of flag is given for true (02, R-4).
 pub const TRUE_BYTES: [u8; 4] = [2, 127, 128, 255];
 
-/// Each sort of flag of each version, true by other bytes than 1; and all of a drawing's flags at once.
+/// Each sort of flag of each version, true by other bytes than 1; all of a drawing's flags at once; and flow frame flags.
 fn true_flags(files: &mut Files, seed: u64) {
     for version in Version::ALL {
         let mut drawings = vec![sampler(seed, version), at_ends(seed, version, true)];
@@ -162,7 +162,14 @@ fn true_flags(files: &mut Files, seed: u64) {
         let all = sampler(seed + 2, version);
         let mut file = write::file(&all);
         let fields = of_file(&all);
-        for (field, byte) in fields.iter().filter(|field| files::is_true_flag(field)).zip(TRUE_BYTES.iter().cycle()) {
+        let flow_flags: Vec<_> = fields.iter().filter(|field| field.kind == Kind::FlowFlag).collect();
+        for (field, byte) in flow_flags.iter().rev().zip(TRUE_BYTES) {
+            let what = format!("1.{}: 11: flow flag of {byte} at {}", version.minor(), field.place);
+            files.push((what, files::put(&file, field, byte.into())));
+        }
+        for (field, byte) in
+            fields.iter().filter(|field| files::is_true_flag(field)).zip(TRUE_BYTES.iter().cycle())
+        {
             file[field.place] = *byte;
         }
         files.push((format!("1.{}: every true flag of another byte", version.minor()), file));

@@ -240,19 +240,21 @@ contents =
     ∷ []
 
 -- The minor version and the settings; then rows 1, 5, 4, 3, 6, 7, 2, 8, 9 and 0, as the objects end.
-abbrev bodies : List ℕ
-bodies =
-    words
-    (int 0 ∷ settingsFields
+abbrev bodyItems : List Item
+bodyItems =
+    int 0 ∷ settingsFields
     ++ openFields
     ++ pictureFields ++ int 1 ∷ flag 0 ∷ [] ++ int 1 ∷ flag 0 ∷ []
     ++ plainFields ++ closedFields ++ int 3 ∷ flag 0 ∷ []
-    ++ linkedFields ++ latexFields ++ int 4 ∷ flag 0 ∷ [])
+    ++ linkedFields ++ latexFields ++ int 4 ∷ flag 0 ∷ []
+
+abbrev bodies : List ℕ
+bodies = words bodyItems
 
 whole : Whole file tree contents bodies
 unfolding fromZeroTo le ofInt ofBits
 whole = record { reads = refl; writes = refl; rows = refl; words = refl; back = refl }
 
-respelled : Respelled (bytes (map otherwise items)) file tree
+respelled : Respelled (bytes (map otherwise items)) file tree contents (words (map otherwise bodyItems))
 unfolding fromZeroTo le ofInt ofBits
-respelled = record { reads = refl; made = refl }
+respelled = record { reads = refl; made = refl; strict = refl }

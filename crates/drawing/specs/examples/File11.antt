@@ -209,19 +209,21 @@ contents =
     ∷ []
 
 -- The minor version and the settings flag; then rows 1, 4, 3, 5, 2, 6 and 0, as the objects end.
-abbrev bodies : List ℕ
-bodies =
-    words
-    (int 1 ∷ flag 0
+abbrev bodyItems : List Item
+bodyItems =
+    int 1 ∷ flag 0
     ∷ firstFields
     ++ secondFields ++ int 1 ∷ flag 0 ∷ []
     ++ textFields ++ int 2 ∷ flag 0 ∷ []
-    ++ bitmapFields ++ int 3 ∷ flag 0 ∷ [])
+    ++ bitmapFields ++ int 3 ∷ flag 0 ∷ []
+
+abbrev bodies : List ℕ
+bodies = words bodyItems
 
 whole : Whole file tree contents bodies
 unfolding fromZeroTo le ofInt ofBits
 whole = record { reads = refl; writes = refl; rows = refl; words = refl; back = refl }
 
-respelled : Respelled (bytes (map otherwise items)) file tree
+respelled : Respelled (bytes (map otherwise items)) file tree contents (words (map otherwise bodyItems))
 unfolding fromZeroTo le ofInt ofBits
-respelled = record { reads = refl; made = refl }
+respelled = record { reads = refl; made = refl; strict = refl }

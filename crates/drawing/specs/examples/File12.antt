@@ -200,23 +200,25 @@ contents =
     ∷ []
 
 -- The minor version and the settings; then rows 1, 5, 4, 6, 3, 7, 2, 8 and 0, as the objects end.
-abbrev bodies : List ℕ
-bodies =
-    words
-    (int 2 ∷ settingsFields
+abbrev bodyItems : List Item
+bodyItems =
+    int 2 ∷ settingsFields
     ++ bitmapFields
     ++ latexFields ++ int 1 ∷ flag 0 ∷ string "y" ∷ []
     ++ markedFields ++ int 2 ∷ flag 0 ∷ string "x" ∷ []
     ++ plainFields ++ int 2 ∷ flag 0 ∷ coded (0xD800 ∷ 0xFFFF ∷ []) ∷ []
-    ++ linkedFields ++ int 3 ∷ flag 0 ∷ string "top" ∷ [])
+    ++ linkedFields ++ int 3 ∷ flag 0 ∷ string "top" ∷ []
+
+abbrev bodies : List ℕ
+bodies = words bodyItems
 
 whole : Whole file tree contents bodies
 unfolding fromZeroTo le ofInt ofBits
 whole = record { reads = refl; writes = refl; rows = refl; words = refl; back = refl }
 
-respelled : Respelled (bytes (map otherwise items)) file tree
+respelled : Respelled (bytes (map otherwise items)) file tree contents (words (map otherwise bodyItems))
 unfolding fromZeroTo le ofInt ofBits
-respelled = record { reads = refl; made = refl }
+respelled = record { reads = refl; made = refl; strict = refl }
 
 -- ---- answers
 

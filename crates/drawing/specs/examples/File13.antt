@@ -197,21 +197,23 @@ contents =
     ∷ []
 
 -- The minor version and the settings; then rows 3, 4, 2, 1, 5, 7, 6 and 0, as the objects end.
-abbrev bodies : List ℕ
-bodies =
-    words
-    (int 3 ∷ settingsFields
+abbrev bodyItems : List Item
+bodyItems =
+    int 3 ∷ settingsFields
     ++ openFields ++ textFields ++ int 2 ∷ flag 0 ∷ string "inner" ∷ []
     ++ int 1 ∷ flag 0 ∷ string "one" ∷ []
-    ++ bitmapFields ++ closedFields ++ int 1 ∷ flag 0 ∷ string "one" ∷ [] ++ int 3 ∷ flag 0 ∷ string "" ∷ [])
+    ++ bitmapFields ++ closedFields ++ int 1 ∷ flag 0 ∷ string "one" ∷ [] ++ int 3 ∷ flag 0 ∷ string "" ∷ []
+
+abbrev bodies : List ℕ
+bodies = words bodyItems
 
 whole : Whole file tree contents bodies
 unfolding fromZeroTo le ofInt ofBits
 whole = record { reads = refl; writes = refl; rows = refl; words = refl; back = refl }
 
-respelled : Respelled (bytes (map otherwise items)) file tree
+respelled : Respelled (bytes (map otherwise items)) file tree contents (words (map otherwise bodyItems))
 unfolding fromZeroTo le ofInt ofBits
-respelled = record { reads = refl; made = refl }
+respelled = record { reads = refl; made = refl; strict = refl }
 
 -- ---- answers
 

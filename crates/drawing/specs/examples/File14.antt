@@ -189,21 +189,23 @@ contents =
     ∷ []
 
 -- The minor version and the settings; then rows 3, 2, 4, 1, 5, 6 and 0, as the objects end.
-abbrev bodies : List ℕ
-bodies =
-    words
-    (int 4 ∷ settingsFields
+abbrev bodyItems : List Item
+bodyItems =
+    int 4 ∷ settingsFields
     ++ markedFields ++ int 1 ∷ flag 0 ∷ string "c" ∷ []
     ++ gradientFields ++ int 2 ∷ flag 0 ∷ string "bb" ∷ []
-    ++ textFields ++ bitmapFields ++ int 3 ∷ flag 0 ∷ string "a" ∷ [])
+    ++ textFields ++ bitmapFields ++ int 3 ∷ flag 0 ∷ string "a" ∷ []
+
+abbrev bodies : List ℕ
+bodies = words bodyItems
 
 whole : Whole file tree contents bodies
 unfolding fromZeroTo fromZeroBelow le lt ofInt ofBits
 whole = record { reads = refl; writes = refl; rows = refl; words = refl; back = refl }
 
-respelled : Respelled (bytes (map otherwise items)) file tree
+respelled : Respelled (bytes (map otherwise items)) file tree contents (words (map otherwise bodyItems))
 unfolding fromZeroTo fromZeroBelow le lt ofInt ofBits
-respelled = record { reads = refl; made = refl }
+respelled = record { reads = refl; made = refl; strict = refl }
 
 -- ---- answers
 

@@ -168,16 +168,20 @@ contents =
     ∷ []
 
 -- The minor version and the settings; then rows 1, 3, 2, 4 and 0, as the objects end.
+abbrev bodyItems : List Item
+bodyItems =
+    int 5 ∷ byte 0 ∷ aisleFields ++ ringFields ++ int 1 ∷ flag 0 ∷ string "b" ∷ [] ++ pathFields ++ int 3 ∷ flag 0 ∷ string "ab" ∷ []
+
 abbrev bodies : List ℕ
-bodies = words (int 5 ∷ byte 0 ∷ aisleFields ++ ringFields ++ int 1 ∷ flag 0 ∷ string "b" ∷ [] ++ pathFields ++ int 3 ∷ flag 0 ∷ string "ab" ∷ [])
+bodies = words bodyItems
 
 whole : Whole file tree contents bodies
 unfolding fromZeroTo fromZeroBelow le lt ofInt ofBits
 whole = record { reads = refl; writes = refl; rows = refl; words = refl; back = refl }
 
-respelled : Respelled (bytes (map otherwise items)) file tree
+respelled : Respelled (bytes (map otherwise items)) file tree contents (words (map otherwise bodyItems))
 unfolding fromZeroTo fromZeroBelow le lt ofInt ofBits
-respelled = record { reads = refl; made = refl }
+respelled = record { reads = refl; made = refl; strict = refl }
 
 -- ---- answers
 

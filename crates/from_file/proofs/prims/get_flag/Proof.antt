@@ -17,13 +17,13 @@ returns : tie.Need-returns
 returns c =
     let at-args = c .before .before in
     let byte : valueAt way 1 (at-args .args .src .now) (at-args .args .at) ≡ getD (at-args .args .src .now) (at-args .args .at) 0 = field-one 256 (at-args .args .src .now) (at-args .args .at) (at-args .pre) in
-    (sym (ap truth (byte ∙ c .if1 .taken)), omega arith)
+    (sym (truth-one (valueAt way 1 (at-args .args .src .now) (at-args .args .at)) (λ e. c .if1 .taken (sym byte ∙ e))), omega arith)
 
 returns-2 : tie.Need-returns-2
 returns-2 c =
     let at-args = c .before .before in
     let byte : valueAt way 1 (at-args .args .src .now) (at-args .args .at) ≡ getD (at-args .args .src .now) (at-args .args .at) 0 = field-one 256 (at-args .args .src .now) (at-args .args .at) (at-args .pre) in
-    (sym (truth-one (valueAt way 1 (at-args .args .src .now) (at-args .args .at)) (λ e. c .if1 .left (sym byte ∙ e))), omega arith)
+    (sym (ap truth (byte ∙ c .if1 .left)), omega arith)
 
 pub get-flag-spec : {M : Type 1} → statement M
 get-flag-spec = tie.close (tie.spec shared-slice-read-if1 returns returns-2)
