@@ -64,7 +64,7 @@ pub fn get_flag(src: &[Unit], at: usize) -> u64
     requires { ⌜ at + sourceUnits way 1 ≤ length (units (now src)) ⌝ }
     ensures { λ r. ⌜ (r ≡ way .source .meant flag (valueAt way 1 (units (now (src .entry))) at)) × (r < way .source .base ^ sourceUnits way 1) ⌝ }
 {
-    src[at] as u64
+    get(&*src, at, 1)
 }
 
 pub fn put(dst: &mut [Kept], to: usize, size: usize, value: u64)
