@@ -24,7 +24,7 @@ enum {
     JDR_CUT = 2,                 /* the file ends before or within the field */
     JDR_NO_JDR = 3,              /* the first field is not 'JDR' */
     JDR_BAD_VERSION = 4,         /* the version's length is not 3, or the version is none of 1.0 to 1.5 */
-    JDR_BAD_FLAG = 5,            /* a flag is neither 0 nor 1: no call gives it, since in a file any byte but 0 is true, and such a table is 16 */
+    JDR_BAD_FLAG = 5,            /* a flag is neither 0 nor 1. No call gives it: in a file any byte but 0 is true, and such a table is 16 */
     JDR_OUT_OF_RANGE = 6,        /* a byte or an integer is outside its list or range, a font size below 0 too */
     JDR_BAD_CHAR = 7,            /* a char is not allowed here in this version */
     JDR_BAD_COUNT = 8,           /* a count or length is negative, or 0 where 1 is needed (a group needs no object); or a dash count is odd */
