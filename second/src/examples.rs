@@ -4,6 +4,8 @@
 use crate::answer::{Answer, BoxAnswer};
 use crate::ask;
 use crate::check::{self, Good};
+use crate::damage::fields::of_file;
+use crate::damage::files::is_true_flag;
 use crate::extent;
 use crate::generate::chars;
 use crate::generate::special::plain_bitmap;
@@ -30,6 +32,7 @@ pub fn plans() -> Vec<(String, Vec<u8>)> {
     let plans = [
         ("aisles", write::file(&aisles())),
         ("bays", write::file(&bays())),
+        ("converter", converter(&bays())),
         ("hall", hall),
         ("places", write::file(&places())),
         ("plan-a", plans::plan_a()),
@@ -39,6 +42,15 @@ pub fn plans() -> Vec<(String, Vec<u8>)> {
         files.push((format!("{name}.jdr"), plan));
     }
     files
+}
+
+/// The drawing as a converter writes it that has 255 for true.
+fn converter(drawing: &Drawing) -> Vec<u8> {
+    let mut file = write::file(drawing);
+    for flag in of_file(drawing).iter().filter(|field| is_true_flag(field)) {
+        file[flag.place] = 255;
+    }
+    file
 }
 
 /// One label three times, at two depths.
@@ -217,7 +229,7 @@ pub fn lines(name: &str, file: &[u8], label: Option<&str>) -> (String, bool) {
     (read + &line("list", listed) + &rows.collect::<String>(), listed.number == 0)
 }
 
-/// The check, and the table written back as what it came from.
+/// The check, and the table written back as what it came from, which may have been a plan with other bytes for true than 1.
 fn comes_back(name: &str, file: &[u8], good: &Good) -> (String, bool) {
     let mut copy = vec![0; file.len()];
     let (call, written) = if name.ends_with(SHEET) {
@@ -225,9 +237,11 @@ fn comes_back(name: &str, file: &[u8], good: &Good) -> (String, bool) {
     } else {
         ("write", write::call(Some(good), &mut copy))
     };
-    let same = copy == file;
-    let last = if same { "the same file\n" } else { "ANOTHER FILE\n" };
-    (line("check", check::call(Some(good))) + &line(call, written) + last, same)
+    let last = match copy == file {
+        true => "the same file\n",
+        false => "the file with each true flag made 1\n",
+    };
+    (line("check", check::call(Some(good))) + &line(call, written) + last, written.number == 0)
 }
 
 /// What a program prints that stores the sheet of a plan of this name, and the sheet if there is one.

@@ -82,13 +82,13 @@ pub fn marked() -> Vec<Plan> {
         plan("m4: JDS", plan_a_with(5, b"S"), 3, 0),
         plan("m5: version length 4", plan_a_with(6, &[0, 0, 0, 4]), 4, 6),
         plan("m6: version 1.6", plan_a_with(15, b"6"), 4, 10),
-        plan("m7: settings 2", plan_a_with(16, &[2]), 5, 16),
+        plan("m7: settings 2", plan_a_with(16, &[2]), 6, 20),
         plan("m8: outer id T", plan_a_with(18, b"T"), 7, 17),
         plan("m9: n = 0", plan_a_with(19, &[0, 0, 0, 0]), 13, 24),
         plan("m10: n = 2", plan_a_with(19, &[0, 0, 0, 2]), 2, 81),
         plan("m11: name length -1", plan_a_with(25, &[255; 4]), 8, 25),
         plan("m12: flow flag 1", plan_a_with(80, &[1]), 11, 80),
-        plan("m12: flow flag 2", plan_a_with(80, &[2]), 5, 80),
+        plan("m12: flow flag 2", plan_a_with(80, &[2]), 11, 80),
         plan("m13: one byte more", one_more, 13, 82),
     ]
 }

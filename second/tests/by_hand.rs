@@ -94,14 +94,10 @@ fn head_refusals() {
     assert_eq!(with(&file, 6, &[255; 4]), (4, 6));
     assert_eq!(with(&file, 6, &[0, 0, 0, 2]), (4, 6));
     assert_eq!(with(&file, 15, b"9"), (4, 10));
-    assert_eq!(with(&file, 16, &[2]), (5, 16));
-    assert_eq!(with(&file, 17, &[2]), (5, 17));
-    assert_eq!(with(&file, 19, &[255]), (5, 19));
     assert_eq!(with(&file, 20, &[0, 0, 0, 8]), (6, 20));
     assert_eq!(with(&file, 20, &[255; 4]), (6, 20));
     assert_eq!(with(&file, 28, &[19]), (6, 28));
     assert_eq!(with(&file, 28, &[200]), (6, 28));
-    assert_eq!(with(&file, 45, &[2]), (5, 45));
     assert_eq!(with(&file, 46, &[4]), (6, 46));
     assert_eq!(with(&file, 55, b"\0P"), (7, 55));
     assert_eq!(with(&file, 55, b"\0X"), (7, 55));
@@ -121,7 +117,8 @@ fn settings_from_1_3_are_a_byte() {
     assert_eq!(answer(&end(rest(Hand::head("1.3").byte(2).byte(73)))), (6, 17));
     assert_eq!(answer(&end(rest(Hand::head("1.3").byte(2).byte(18).double(1.0).double(2.0)))), (0, 107));
     assert_eq!(answer(&end(rest(Hand::head("1.3").byte(3)))), (6, 16));
-    assert_eq!(answer(&end(rest(Hand::head("1.2").byte(2).byte(17)))), (5, 16));
+    // Below 1.3 a 2 is true, so the 17 is the grid and the G stands where lock and rulers do.
+    assert_eq!(answer(&end(rest(Hand::head("1.2").byte(2).byte(17)))), (7, 38));
 }
 
 #[test]
@@ -138,9 +135,9 @@ fn a_field_of_several_chars_is_cut_at_its_start() {
 #[test]
 fn an_earlier_fault_comes_before_a_later_cut() {
     let mut file = plan_a();
-    file[16] = 2;
-    assert_eq!(answer(&file[..17]), (5, 16));
-    assert_eq!(answer(&file[..16]), (2, 16));
+    file[18] = b'T';
+    assert_eq!(answer(&file[..19]), (7, 17));
+    assert_eq!(answer(&file[..18]), (2, 17));
 }
 
 #[test]
@@ -167,9 +164,21 @@ fn each_double_of_a_transformation_is_a_field() {
 #[test]
 fn flow_flags() {
     assert_eq!(with(&plan_a(), 80, &[1]), (11, 80));
-    assert_eq!(with(&plan_a(), 80, &[2]), (5, 80));
+    assert_eq!(with(&plan_a(), 80, &[2]), (11, 80));
     assert_eq!(with(&plan_a(), 81, &[1]), (11, 81));
-    assert_eq!(with(&plan_a(), 81, &[128]), (5, 81));
+    assert_eq!(with(&plan_a(), 81, &[128]), (11, 81));
+}
+
+/// 'Any byte that is not 0 is true': settings, grid, rulers and portrait.
+#[test]
+fn true_flags() {
+    let file = text_1_2();
+    let length = file.len() as u32;
+    for place in [16, 17, 19, 45] {
+        for byte in [1, 2, 127, 128, 255] {
+            assert_eq!(with(&file, place, &[byte]), (0, length));
+        }
+    }
 }
 
 #[test]
@@ -240,12 +249,12 @@ fn paint_and_marker_refusals_of_1_4() {
     assert_eq!(with(&file, 88, &[80]), (6, 88));
     assert_eq!(with(&file, 93, &[0]), (6, 93));
     assert_eq!(with(&file, 93, &[4]), (6, 93));
-    assert_eq!(with(&file, 94, &[2]), (5, 94));
-    assert_eq!(with(&file, 95, &[2]), (5, 95));
+    assert_eq!(with(&file, 94, &[2]), (0, 196));
+    assert_eq!(with(&file, 95, &[2]), (7, 96), "no angle, so the paint's char is wanted");
     assert_eq!(with(&file, 100, b"\0G"), (7, 100), "no gradient in a marker");
-    assert_eq!(with(&file, 102, &[2]), (5, 102));
-    assert_eq!(with(&file, 103, &[2]), (5, 103));
-    assert_eq!(with(&file, 108, &[7]), (5, 108));
+    assert_eq!(with(&file, 102, &[2]), (6, 108), "no offsets, so a marker of id 1 is wanted: its repeat");
+    assert_eq!(with(&file, 103, &[2]), (0, 196));
+    assert_eq!(with(&file, 108, &[7]), (6, 118), "an offset, and then a marker: its repeat");
     assert_eq!(with(&file, 185, &[255; 4]), (8, 185), "a negative description length");
 }
 
@@ -257,7 +266,7 @@ fn text_refusals() {
     assert_eq!(with(&file, 72, &[2]), (6, 72));
     assert_eq!(with(&file, 73, &[255; 4]), (6, 73), "a font size below 0");
     assert_eq!(with(&file, 73, &[0; 4]), (0, 192));
-    assert_eq!(with(&file, 125, &[2]), (5, 125));
+    assert_eq!(with(&file, 125, &[2]), (0, 192));
     assert_eq!(with(&file, 144, &[3]), (6, 144));
     assert_eq!(with(&file, 145, &[4]), (6, 145));
     assert_eq!(with(&file, 146, &[255; 4]), (8, 146));
@@ -288,7 +297,7 @@ fn refusals_in_a_text_along_a_path() {
     assert_eq!(with(&file, 41, &[2]), (6, 41));
     assert_eq!(with(&file, 42, &[2]), (6, 42));
     assert_eq!(with(&file, 43, &[255; 4]), (6, 43));
-    assert_eq!(with(&file, 95, &[2]), (5, 95));
+    assert_eq!(with(&file, 95, &[2]), (0, 200));
     assert_eq!(with(&file, 114, &[3]), (6, 114));
     assert_eq!(with(&file, 115, &[4]), (6, 115));
     assert_eq!(with(&file, 116, &[255; 4]), (8, 116));
@@ -301,7 +310,7 @@ fn refusals_in_a_text_along_a_path() {
     assert_eq!(with(&file, 136, &[255; 8]), (0, 200), "no start has to join");
     assert_eq!(with(&file, 152, b"\0X"), (7, 152));
     assert_eq!(with(&file, 188, &[1]), (11, 188));
-    assert_eq!(with(&file, 188, &[2]), (5, 188));
+    assert_eq!(with(&file, 188, &[2]), (11, 188));
     assert_eq!(with(&file, 189, &[255; 4]), (8, 189));
 }
 
@@ -324,7 +333,7 @@ fn the_smallest_file() {
     assert_eq!(with(&file, 19, &[128, 0, 0, 0]), (8, 19));
     assert_eq!(with(&file, 19, &[0, 0, 0, 1]), (2, 23), "an id char is wanted");
     assert_eq!(with(&file, 23, &[1]), (11, 23));
-    assert_eq!(with(&file, 23, &[2]), (5, 23));
+    assert_eq!(with(&file, 23, &[2]), (11, 23));
     assert_eq!(with(&file, 15, b"2"), (2, 24), "a description is wanted");
 }
 
@@ -344,7 +353,7 @@ fn refusals_around_empty_groups() {
     assert_eq!(with(&file, 42, &[0; 4]), (2, 51 + (84 - 51) / 2 * 2));
     assert_eq!(with(&file, 19, &[0, 0, 0, 2]), (2, 73 + (84 - 73) / 2 * 2));
     assert_eq!(with(&file, 29, &[1]), (11, 29));
-    assert_eq!(with(&file, 52, &[2]), (5, 52));
+    assert_eq!(with(&file, 52, &[2]), (11, 52));
     assert_eq!(with(&file, 53, &[255; 4]), (8, 53));
     assert_eq!(answer(&file[..29]), (2, 29));
     assert_eq!(answer(&file[..38]), (2, 38), "a char of the description");

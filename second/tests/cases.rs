@@ -14,13 +14,13 @@ fn number(case: &Case) -> &str {
 }
 
 #[test]
-fn every_number_of_the_reader_occurs_at_several_places() {
+fn every_number_of_the_reader_occurs_at_several_places_and_5_nowhere() {
     for seed in [1, 2, 77] {
         let cases = reads::cases(seed);
         let numbers = first_numbers(&cases);
-        assert!(numbers.keys().copied().eq(0..=13), "{numbers:?}");
+        assert!(numbers.keys().copied().eq((0..=13).filter(|number| *number != 5)), "{numbers:?}");
         assert!(numbers.values().all(|count| *count >= 3), "{numbers:?}");
-        assert!(cases.len() <= 1_000 && bytes(&cases) < 3_000_000);
+        assert!(cases.len() <= 1_300 && bytes(&cases) < 4_000_000);
     }
 }
 

@@ -115,3 +115,11 @@ fn what_is_refused_is_not_stored() {
         assert_eq!(said("cut.sheet", label), ("sheet_read: 19 0 0 0\n".to_string(), false));
     }
 }
+
+#[test]
+fn a_converters_plan_comes_back_with_its_true_flags_made_1() {
+    let (lines, well) = said("converter.jdr", None);
+    assert!(well && lines.ends_with("\nthe file with each true flag made 1\n"), "{lines}");
+    assert_eq!(file("converter.sheet"), file("bays.sheet"));
+    assert_eq!(rows("converter.jdr", "bay"), rows("bays.jdr", "bay"));
+}

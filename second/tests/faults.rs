@@ -51,7 +51,7 @@ fn every_fault_has_its_number_and_offset() {
     }
     for version in Version::ALL.map(Version::minor) {
         for number in 3..=12 {
-            let there = number != 12 || version < 3;
+            let there = number != 5 && (number != 12 || version < 3);
             assert_eq!(seen.contains_key(&(version, number)), there, "1.{version}: {number}");
         }
     }

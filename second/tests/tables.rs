@@ -63,7 +63,7 @@ fn is_free(version: Version, field: &Field) -> Option<bool> {
         Kind::Double => None,
         kind if kind == Kind::ANY_INTEGER => Some(true),
         Kind::Integer { .. } | Kind::Byte { .. } | Kind::MarkerId { .. } => None,
-        Kind::Flag | Kind::Letter { .. } | Kind::Component | Kind::Hue => None,
+        Kind::Flag { .. } | Kind::Letter { .. } | Kind::Component | Kind::Hue => None,
         // The empty string before `c` of char 0 and the string of char 1 before the empty one have
         // words that differ in one count only.
         Kind::Count { .. } => None,

@@ -5,7 +5,8 @@ use Prim.Native.Char.{code}
 use mathlib.Core.List.{List}
 use lib.ListN.{length}
 use lib.Dec.{eqb}
-use Rattle.format.specs.FixedCodec.{spellFixed}
+use Rattle.format.specs.FixedCodec.{spellFixed, SpelledBy}
+use Rattle.format.specs.Format.{fields}
 use Rattle.drawing.specs.Codecs.{byteFields}
 use Rattle.format.specs.Layout.{Layout, field, constant, renamed, encode, _&_, _▸_}
 use Rattle.drawing.specs.Limits.{lengthLimit, depthLimit}
@@ -48,7 +49,7 @@ drawingFrom version =
 abbrev pub file : Layout Drawing
 file = constant magic jdr magic-only (constant versionLength 3 version-length-only (drawingFrom version))
 
--- The bytes of a drawing's file.
+-- The bytes of a drawing's file, as it is written: each field by its own number, a true flag by 1.
 abbrev pub fileOf : Drawing → List ℕ
 fileOf d = encode (spellFixed byteFields) file d
 
@@ -57,7 +58,7 @@ pub record Acceptable (d : Drawing) : Type 0 where
   pub good : file .Good d
   pub short : length (fileOf d) ≤ lengthLimit
 
--- These bytes are a drawing's file.
+-- These bytes are a file of the drawing: they spell its fields, one after another, each by one of its spellings, and nothing comes behind.
 pub record IsFile (bytes : List ℕ) (d : Drawing) : Type 0 where
   pub acceptable : Acceptable d
-  pub bytes-are : bytes ≡ fileOf d
+  pub spelled : SpelledBy byteFields (fields (file .format) d) bytes

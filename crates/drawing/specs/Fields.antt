@@ -1,5 +1,5 @@
 -- The kinds of field of a drawing, each with the number that 01 gives to a value that is not allowed ('Fields', 'Numbers given back').
--- That a field is cut (2), and that a flag is neither 0 nor 1 (5), comes before all of these, in reading the field: see Codecs.
+-- That a field is cut (2) comes before all of these, in reading the field: see Codecs.
 use mathlib.Core.Bool.{Bool, true, false, cond, _&&_, _||_}
 use Prim.Native.Nat.{ℕ, zero, suc, _+_, _%_, _^_}
 use Prim.Native.Char.{code}
@@ -57,7 +57,7 @@ versionChars =
 abbrev pub flag : Kind
 flag = any K.flag
 
--- no flow frame data is carried: 1 is 11
+-- no flow frame data is carried: a true flag is 11
 abbrev pub flowFlag : Kind
 flowFlag = record { shape = K.flag; fault = λ v. unless (eqb v 0) flowFrame }
 
@@ -67,6 +67,10 @@ inRange low high z = leZ (pos low) z && leZ z (pos high)
 
 abbrev pub byteIn : ℕ → ℕ → Kind
 byteIn low high = record { shape = K.byte; fault = λ v. unless (inRange low high (toZ w8 v)) outOfRange }
+
+-- a byte and no flag: a 2 is no winding
+abbrev pub windingRule : Kind
+windingRule = byteIn 0 1
 
 abbrev pub integer : Kind
 integer = any K.integer

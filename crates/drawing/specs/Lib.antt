@@ -23,6 +23,7 @@ pub mod LeafLayout
 pub mod ObjectLaws
 pub mod ObjectLayout
 pub mod Drawing
+pub mod NormalForm
 pub mod Refusal
 pub mod Table
 pub mod Order
@@ -34,6 +35,7 @@ pub mod Reading
 pub mod TableDrawing
 pub mod SheetDrawing
 pub mod KindLaws
+pub mod FlagLaws
 pub mod Computed
 pub mod MarkedPlans
 pub mod examples

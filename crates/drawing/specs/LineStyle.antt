@@ -6,7 +6,7 @@ use lib.ListN.{length}
 use lib.Dec.{leb, ltb, eqb}
 use Rattle.format.specs.Layout.{Layout, field, when, counted, renamed, _&_, _▸_}
 use Rattle.drawing.specs.Limits.{v1-1}
-use Rattle.drawing.specs.Fields.{float, dashCount, byteIn}
+use Rattle.drawing.specs.Fields.{float, dashCount, byteIn, windingRule}
 use Rattle.drawing.specs.Marker.{Marker}
 use Rattle.drawing.specs.MarkerChain.{markers}
 
@@ -32,7 +32,7 @@ lineStyle v =
     & (counted dashCount (field float) ▸ λ dashes. when (ltb 0 (length dashes)) (field float) 0)
     & field (byteIn 0 2)
     & (field (byteIn 0 2) ▸ λ join. when (eqb join 0) (field float) 0)
-    & field (byteIn 0 1)
+    & field windingRule
     & markers v
     & when (leb v1-1 v) (markers v) []
     & markers v)

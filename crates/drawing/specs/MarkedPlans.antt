@@ -86,8 +86,8 @@ marked =
     -- m5: version length 4; m6: version 1.6
     ∷ refused (set planA 9 4) 4 6
     ∷ refused (set planA 15 (code "6")) 4 10
-    -- m7: settings 2
-    ∷ refused (set planA 16 2) 5 16
+    -- m7: settings 2, which is true, so all settings are read and the tool is at fault
+    ∷ refused (set planA 16 2) 6 20
     -- m8: outer id T
     ∷ refused (set planA 18 (code "T")) 7 17
     -- m9: n = 0, so that the 0 at 23 is the flow frame flag; m10: n = 2
@@ -95,9 +95,9 @@ marked =
     ∷ refused (set planA 22 2) 2 81
     -- m11: name length -1
     ∷ refused (sets planA 25 (255 ∷ 255 ∷ 255 ∷ 255 ∷ [])) 8 25
-    -- m12: flow flag 1, and 2
+    -- m12: flow flag 1, and 2, which is true as well
     ∷ refused (set planA 80 1) 11 80
-    ∷ refused (set planA 80 2) 5 80
+    ∷ refused (set planA 80 2) 11 80
     -- m13: one byte more
     ∷ refused (planA ++ (0 ∷ [])) 13 82
     -- m14: room for 1 row; for 2 rows and 19 words

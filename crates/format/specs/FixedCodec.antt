@@ -3,11 +3,11 @@ use mathlib.Core.Path.{_≡_}
 use mathlib.Core.Bool.{cond}
 use mathlib.Core.Option.{Option, none, some}
 use Prim.Native.Nat.{ℕ, _<_}
-use mathlib.Core.List.{List, _++_}
+use mathlib.Core.List.{List, [], _∷_, _++_}
 use lib.ListN.{length}
 use lib.Dec.{ltb}
-use Rattle.format.specs.Digits.{number, digits}
-use Rattle.format.specs.Kind.{Shape, values, Kind}
+use Rattle.format.specs.Digits.{Below, number, digits}
+use Rattle.format.specs.Kind.{Shape, values, Kind, Field}
 use Rattle.format.specs.Spelling.{Spelling}
 
 pub record Fixed : Type 0 where
@@ -26,6 +26,18 @@ itself s x = cond (ltb x (values s)) (some x) none
 
 abbrev pub spellFixed : Fixed → Spelling
 spellFixed F k v = digits (F .base) (F .width (k .shape)) v
+
+-- A field with this value is spelled by these units: as many digits as it has, of a number that stands for the value.
+pub record SpellsFixed (F : Fixed) (k : Kind) (v : ℕ) (us : List ℕ) : Type 0 where
+  pub long : length us ≡ F .width (k .shape)
+  pub below : Below (F .base) us
+  pub means : F .meaning (k .shape) (number (F .base) us) ≡ some v
+
+-- Fields, one after another, are spelled by these units, each by one of its spellings.
+abbrev pub SpelledBy : Fixed → List Field → List ℕ → Type 0
+SpelledBy F [] us = us ≡ []
+SpelledBy F (f ∷ fs) us =
+    (front : List ℕ) × (back : List ℕ) × (us ≡ front ++ back) × SpellsFixed F (f .kind) (f .value) front × SpelledBy F fs back
 
 -- What is wrong with what a number stands for in a field of this kind, 0 for nothing.
 abbrev pub numberFault : Fixed → Kind → Option ℕ → ℕ

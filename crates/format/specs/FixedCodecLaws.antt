@@ -1,11 +1,11 @@
 -- Codecs of fixed width are lawful, and can be written with; those in which a number stands for itself have one spelling only.
-use mathlib.Core.Path.{_≡_, refl, sym, ap}
+use mathlib.Core.Path.{_≡_, refl, sym, ap, ap₂, _∙_}
 use mathlib.Core.Logic.{_⊎_, inl, inr}
 use mathlib.Core.Bool.{Bool, true, false, cond}
 use mathlib.Core.Option.{Option, none, some, Option·map}
-use Prim.Native.Nat.{ℕ, zero, suc, _<_, _≤_, _^_}
+use Prim.Native.Nat.{ℕ, zero, suc, _+_, _<_, _≤_, _^_}
 use mathlib.Core.List.{List, [], _∷_, _++_}
-use lib.ListN.{length}
+use lib.ListN.{length, length-append}
 use lib.Dec.{ltb}
 use native.Mathlib.Omega.{arith}
 use native.Mathlib.Nat as Nat
@@ -13,10 +13,10 @@ use borrow.Author.Tests.{lt-ltb, ltb-true}
 use Rattle.format.specs.Digits.{Below, number, digits}
 use Rattle.format.specs.DigitsLaws.{length-digits, below-digits, number-digits, number-below, digits-number}
 use Rattle.format.specs.Kind.{Shape, values, Kind, Field, Allowed}
-use Rattle.format.specs.Codec.{Lawful, Writes, Strict, found, refused, Explained}
+use Rattle.format.specs.Codec.{Lawful, Writes, Strict, Spelled, found, refused, Explained}
 use Rattle.format.specs.Spelling.{spellAll}
-use Rattle.format.specs.FixedCodec.{Fixed, Faulty, Cut, spellFixed, numberFault}
-use Rattle.format.specs.FixedReading.{fixed, splitAt, value, fault, judged, verdict, judge, conclude, readCut, SpellsFixed, literal}
+use Rattle.format.specs.FixedCodec.{Fixed, SpellsFixed, SpelledBy, Faulty, Cut, spellFixed, numberFault}
+use Rattle.format.specs.FixedReading.{fixed, splitAt, value, fault, judged, verdict, judge, conclude, readCut, standing, literal}
 
 -- A run of units that is split off where it ends.
 pub splitAt-append : (front rest : List ℕ) (n : ℕ) → length front ≡ n → splitAt n (front ++ rest) ≡ some (front, rest)
@@ -144,24 +144,50 @@ module _ (F : Fixed) (S : Sensible F) where
       let e : number (F .base) us ≡ v = lit (k .shape) (number (F .base) us) v (p .means) in
       rw (← e, ← (p .long)) (sym (digits-number (F .base) us (S .positive) (p .below)))
 
--- The test that a number is one of the shape's values.
-literal-says : (s : Shape) (x v : ℕ) (t : Bool) → ltb x (values s) ≡ t → cond t (some x) none ≡ some v → (x ≡ v) × (x < values s)
-literal-says s x v true h e = (cc, ltb-true x (values s) h)
-literal-says s x v false h e = let z : _≡_ {A = ℕ} 0 1 = cc in absurd (omega arith)
+-- The two ways to say that units spell fields: what comes behind them does not matter here.
+pub spelled-fixed : (F : Fixed) (fs : List Field) (us rest : List ℕ) → SpelledBy F fs us → Spelled (fixed F) fs us rest
+spelled-fixed F [] us rest p = p
+spelled-fixed F (f ∷ fs) us rest p = (p .0, p .1, p .2, p .3, spelled-fixed F fs (p .1) rest (p .4))
 
-module _ (base : ℕ) (width : Shape → ℕ) (missing meaningless : ℕ) where
-  pub literal-literal : Literal (literal base width missing meaningless)
-  literal-literal s x v e = literal-says s x v (ltb x (values s)) refl e .0
+pub fixed-spelled : (F : Fixed) (fs : List Field) (us rest : List ℕ) → Spelled (fixed F) fs us rest → SpelledBy F fs us
+fixed-spelled F [] us rest p = p
+fixed-spelled F (f ∷ fs) us rest p = (p .0, p .1, p .2, p .3, fixed-spelled F fs (p .1) rest (p .4))
 
-  pub literal-sensible : 0 < base → 0 < meaningless → ((s : Shape) → values s ≤ base ^ width s) → Sensible (literal base width missing meaningless)
-  literal-sensible positive counted room =
+-- However fields are spelled, they have the digits of their shapes.
+pub spelled-long : (F : Fixed) (fs : List Field) (us : List ℕ) → SpelledBy F fs us → length us ≡ length (spellAll (spellFixed F) fs)
+spelled-long F [] us p = ap length p
+spelled-long F (f ∷ fs) us p =
+    let front : length (p .0) ≡ F .width (f .kind .shape) = p .3 .long in
+    ap length (p .2)
+    ∙ length-append (p .0) (p .1)
+    ∙ ap₂ _+_ (front ∙ sym (length-digits (F .base) (F .width (f .kind .shape)) (f .value))) (spelled-long F fs (p .1) (p .4))
+    ∙ sym (length-append (spellFixed F (f .kind) (f .value)) (spellAll (spellFixed F) fs))
+
+-- The test that what a number stands for is one of the shape's values.
+standing-says : (s : Shape) (x v : ℕ) (t : Bool) → ltb x (values s) ≡ t → cond t (some x) none ≡ some v → (x ≡ v) × (x < values s)
+standing-says s x v true h e = (cc, ltb-true x (values s) h)
+standing-says s x v false h e = let z : _≡_ {A = ℕ} 0 1 = cc in absurd (omega arith)
+
+module _ (base : ℕ) (width : Shape → ℕ) (meant : Shape → ℕ → ℕ) (missing meaningless : ℕ) where
+  pub standing-meant : (s : Shape) (x v : ℕ) → standing base width meant missing meaningless .meaning s x ≡ some v → meant s x ≡ v
+  standing-meant s x v e = standing-says s (meant s x) v (ltb (meant s x) (values s)) refl e .0
+
+  pub standing-sensible : 0 < base → 0 < meaningless → ((s : Shape) (v : ℕ) → v < values s → meant s v ≡ v) → ((s : Shape) → values s ≤ base ^ width s) → Sensible (standing base width meant missing meaningless)
+  standing-sensible positive counted own room =
       record {
         positive = positive;
         counted = counted;
-        fits = λ s x v h e. let w = literal-says s x v (ltb x (values s)) refl e in rw (← (w .0)) (w .1);
-        plain = λ s v h. rw (lt-ltb v (values s) h);
+        fits = λ s x v h e. let w = standing-says s (meant s x) v (ltb (meant s x) (values s)) refl e in rw (← (w .0)) (w .1);
+        plain = λ s v h. rw (own s v h, lt-ltb v (values s) h);
         room = room;
       }
+
+module _ (base : ℕ) (width : Shape → ℕ) (missing meaningless : ℕ) where
+  pub literal-literal : Literal (literal base width missing meaningless)
+  literal-literal s x v e = standing-meant base width (λ s x. x) missing meaningless s x v e
+
+  pub literal-sensible : 0 < base → 0 < meaningless → ((s : Shape) → values s ≤ base ^ width s) → Sensible (literal base width missing meaningless)
+  literal-sensible positive counted room = standing-sensible base width (λ s x. x) missing meaningless positive counted (λ s v h. refl) room
 
 -- A refusal's number is never 0.
 pub fault-positive : (F : Fixed) → 0 < F .missing → (k : Kind) (us : List ℕ) (n : ℕ) → Cut F k us n ⊎ Faulty F k us n → 0 < n

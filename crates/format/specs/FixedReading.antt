@@ -7,7 +7,7 @@ use mathlib.Core.List.{List, [], _∷_}
 use lib.ListN.{length}
 use Rattle.format.specs.Digits.{Below, number}
 use Rattle.format.specs.Kind.{Shape, Kind}
-use Rattle.format.specs.FixedCodec.{Fixed, itself, Cut, Faulty}
+use Rattle.format.specs.FixedCodec.{Fixed, itself, SpellsFixed, Cut, Faulty}
 use Rattle.format.specs.Codec.{Codec, Outcome, found, refused}
 
 -- The first n units and those behind them, `none` where there are fewer.
@@ -40,11 +40,6 @@ abbrev pub readCut : Fixed → Kind → List ℕ → Option (List ℕ × List �
 readCut F k us none = refused (F .missing) us
 readCut F k us (some parts) = conclude (judge F k (parts .0)) us (parts .1)
 
-pub record SpellsFixed (F : Fixed) (k : Kind) (v : ℕ) (us : List ℕ) : Type 0 where
-  pub long : length us ≡ F .width (k .shape)
-  pub below : Below (F .base) us
-  pub means : F .meaning (k .shape) (number (F .base) us) ≡ some v
-
 abbrev pub fixed : Fixed → Codec
 fixed F =
     record {
@@ -54,7 +49,11 @@ fixed F =
       read = λ k us. readCut F k us (splitAt (F .width (k .shape)) us);
     }
 
+-- The codec in which a number stands for what `meant` makes of it, if that is one of the shape's values.
+abbrev pub standing : (base : ℕ) → (Shape → ℕ) → (meant : Shape → ℕ → ℕ) → (missing meaningless : ℕ) → Fixed
+standing base width meant missing meaningless =
+    record { base = base; width = width; meaning = λ s x. itself s (meant s x); missing = missing; meaningless = meaningless }
+
 -- The codec in which a number stands for itself.
 abbrev pub literal : (base : ℕ) → (Shape → ℕ) → (missing meaningless : ℕ) → Fixed
-literal base width missing meaningless =
-    record { base = base; width = width; meaning = itself; missing = missing; meaningless = meaningless }
+literal base width missing meaningless = standing base width (λ s x. x) missing meaningless

@@ -1,6 +1,6 @@
 -- One field: its shape, the values it may have, and what is wrong with the others.
 use mathlib.Core.Path.{_≡_}
-use mathlib.Core.Bool.{Bool}
+use mathlib.Core.Bool.{Bool, true, false}
 use Prim.Native.Nat.{ℕ, _*_, _^_, _<_}
 
 -- How a field is laid down. A string's length and its chars have shapes of their own, the char with whether it is the string's last, since
@@ -33,6 +33,17 @@ values double = 256 ^ 8
 values stringLength = 256 ^ 4
 values (stringChar last) = 256 ^ 2
 values (chars n) = 256 ^ (2 * n)
+
+abbrev pub isFlag : Shape → Bool
+isFlag flag = true
+isFlag byte = false
+isFlag char = false
+isFlag integer = false
+isFlag float = false
+isFlag double = false
+isFlag stringLength = false
+isFlag (stringChar last) = false
+isFlag (chars n) = false
 
 -- A kind of field: its shape, and for each value the number of the fault that it is here, 0 where it is allowed.
 -- A field's value is the unsigned big-endian number of its bytes.

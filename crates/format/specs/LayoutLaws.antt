@@ -1,13 +1,13 @@
--- The laws of parsing and encoding, for any layout and any lawful codec: what is encoded parses to itself, what parses was good and encodes to
--- what was there, two good values never share an encoding, and a refusal is good fields followed by one that is cut or at fault.
-use mathlib.Core.Path.{_≡_, refl, sym, ap, _∙_, subst}
+-- The laws of parsing and encoding, for any layout and any lawful codec: what is spelled parses to itself, what parses was good and is spelled by
+-- what was there, and a refusal is good fields followed by one that is cut or at fault.
+use mathlib.Core.Path.{_≡_, refl, ap, _∙_, subst}
 use mathlib.Core.Logic.{_↔_}
 use Prim.Native.Nat.{ℕ}
 use mathlib.Core.List.{List, [], _∷_, _++_, append-nil}
-use Rattle.format.specs.Kind.{Kind, Field, Allowed}
-use Rattle.format.specs.Codec.{Codec, Lawful, Writes, Strict, Spelled, Outcome, found, refused}
+use Rattle.format.specs.Kind.{Field, Allowed}
+use Rattle.format.specs.Codec.{Codec, Lawful, Writes, Strict, Spelled, found, refused}
 use Rattle.format.specs.Spelling.{Spelling, spellAll}
-use Rattle.format.specs.Script.{Script, end, ask, Asks}
+use Rattle.format.specs.Script.{Script, end, ask}
 use Rattle.format.specs.Parse.{parse}
 use Rattle.format.specs.ScriptRun.{Ends}
 use Rattle.format.specs.ScriptLaws.{Halt, Whole, Accounted, run-ends, run-asks, run-accounts}
@@ -20,17 +20,12 @@ abbrev pub AllAllowed : List Field → Type 0
 AllAllowed [] = Unit {0}
 AllAllowed (f ∷ fs) = Allowed (f .kind) (f .value) × AllAllowed fs
 
--- So are the fields that a script was given, to its end or up to a field that it asks for.
+-- So are the fields that a script was given, to its end.
 pub ends-allowed : {R : Type 0} (s : Script R) (fs : List Field) (r : R) → Ends s fs r → AllAllowed fs
 ends-allowed (end x) [] r e = tt
 ends-allowed (end x) (f ∷ fs) r e = absurd e
 ends-allowed (ask k next) [] r e = absurd e
 ends-allowed (ask k next) (f ∷ fs) r e = (rw (e .0) (e .1), ends-allowed (next (f .value)) fs r (e .2))
-
-pub asks-allowed : {R : Type 0} (s : Script R) (fs : List Field) (k : Kind) → Asks s fs k → AllAllowed fs
-asks-allowed (end x) fs k e = absurd e
-asks-allowed (ask k′ next) [] k e = tt
-asks-allowed (ask k′ next) (f ∷ fs) k e = (rw (e .0) (e .1), asks-allowed (next (f .value)) fs k (e .2))
 
 -- Allowed fields can be written.
 pub spelled-all : (C : Codec) (spell : Spelling) → Writes C spell → (fs : List Field) (rest : List ℕ) → AllAllowed fs → Spelled C fs (spellAll spell fs) rest
@@ -64,9 +59,13 @@ module _ {A : Type 0} (C : Codec) (L : Lawful C) (F : Layout A) where
   pub complete : (a : A) → F .Good a → (us rest : List ℕ) → Spelled C (fields (F .format) a) us rest → parse C F (us ++ rest) ≡ found a rest
   complete a g us rest p = run-ends C L (script (F .format) (λ a. end a)) (fields (F .format) a) a us rest (ends-good a g) p
 
+  -- A good value is spelled by what is written of it.
+  pub written-spelled : (spell : Spelling) → Writes C spell → (a : A) → F .Good a → (rest : List ℕ) → Spelled C (fields (F .format) a) (encode spell F a) rest
+  written-spelled spell w a g rest =
+      spelled-all C spell w (fields (F .format) a) rest (ends-allowed (script (F .format) (λ a. end a)) (fields (F .format) a) a (ends-good a g))
+
   pub complete-written : (spell : Spelling) → Writes C spell → (a : A) → F .Good a → (rest : List ℕ) → parse C F (encode spell F a ++ rest) ≡ found a rest
-  complete-written spell w a g rest =
-      complete a g (encode spell F a) rest (spelled-all C spell w (fields (F .format) a) rest (ends-allowed (script (F .format) (λ a. end a)) (fields (F .format) a) a (ends-good a g)))
+  complete-written spell w a g rest = complete a g (encode spell F a) rest (written-spelled spell w a g rest)
 
   -- What the units hold, where they parse.
   pub record Held (us : List ℕ) (a : A) (rest : List ℕ) : Type 0 where
@@ -97,15 +96,8 @@ module _ {A : Type 0} (C : Codec) (L : Lawful C) (F : Layout A) where
     λ h. rw (h .split) (run-asks C L (script (F .format) (λ a. end a)) (h .fields) (h .kind) (h .front) (h .back) n at (h .asks) (h .spelled) (h .stops)),
   )
 
-  module _ (spell : Spelling) (w : Writes C spell) (s : Strict C spell) where
-    -- What parses was good, and encodes to what was there.
-    pub sound-strict : (us : List ℕ) → C .Units us → (a : A) (rest : List ℕ) → parse C F us ≡ found a rest → F .Good a × (us ≡ encode spell F a ++ rest)
-    sound-strict us u a rest e =
-        let h = sound us u a rest e in
-        (h .good, h .split ∙ ap (λ l. l ++ rest) (spelled-strict C spell s (fields (F .format) a) (h .front) rest (h .spelled)))
-
-    -- Two good values never share an encoding, whatever comes behind it.
-    pub unique : (a b : A) (r t : List ℕ) → F .Good a → F .Good b → encode spell F a ++ r ≡ encode spell F b ++ t → (a ≡ b) × (r ≡ t)
-    unique a b r t g h e =
-        let p : _≡_ {A = Outcome A} (found a r) (found b t) = sym (complete-written spell w a g r) ∙ ap (parse C F) e ∙ complete-written spell w b h t in
-        (cc, cc)
+  -- Where a value has one spelling only, what parses encodes to what was there.
+  pub sound-strict : (spell : Spelling) → Strict C spell → (us : List ℕ) → C .Units us → (a : A) (rest : List ℕ) → parse C F us ≡ found a rest → F .Good a × (us ≡ encode spell F a ++ rest)
+  sound-strict spell s us u a rest e =
+      let h = sound us u a rest e in
+      (h .good, h .split ∙ ap (λ l. l ++ rest) (spelled-strict C spell s (fields (F .format) a) (h .front) rest (h .spelled)))

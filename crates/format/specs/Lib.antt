@@ -21,6 +21,7 @@ pub mod ScriptLaws
 pub mod Parse
 pub mod LayoutLaws
 pub mod FixedLayoutLaws
+pub mod EveryLaws
 pub mod LeafLaws
 pub mod Pass
 pub mod Recode

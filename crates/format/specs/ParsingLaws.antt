@@ -2,22 +2,16 @@
 use mathlib.Core.Path.{_≡_, refl, sym, ap, _∙_, fun-ext}
 use mathlib.Core.Bool.{Bool, true, false, cond}
 use mathlib.Core.Option.{Option, some}
-use Prim.Native.Nat.{ℕ, zero, suc, _+_, _-_}
+use Prim.Native.Nat.{ℕ, zero, suc}
 use mathlib.Core.List.{List, [], _∷_, _++_, append-nil}
-use lib.ListN.{length, length-append}
-use Rattle.format.specs.Digits.{Below}
 use Rattle.format.specs.Kind.{Kind, Field}
 use Rattle.format.specs.Codec.{Codec, Outcome, found, refused, andThen}
-use Rattle.format.specs.FixedCodec.{Fixed, spellFixed}
-use Rattle.format.specs.FixedReading.{fixed}
-use Rattle.format.specs.FixedCodecLaws.{Sensible, Literal}
 use Rattle.format.specs.Script.{Script, end, ask}
 use Rattle.format.specs.Parse.{parse}
 use Rattle.format.specs.ScriptRun.{run, Ends}
 use Rattle.format.specs.Format.{Format, known, one, pair, many, pick, lead, via, fields, script, scriptMany}
 use Rattle.format.specs.FormatLaws.{Taken, taken}
-use Rattle.format.specs.Layout.{Layout, encode, field, either, threaded, renamed, case, implied, _▸_}
-use Rattle.format.specs.FixedLayoutLaws.{parsed-good}
+use Rattle.format.specs.Layout.{Layout, field, either, threaded, renamed, case, implied, _▸_}
 
 -- ---- outcomes
 
@@ -126,9 +120,3 @@ ended {A} {P} f fs a e = alone (t .behind) (t .split) (t .ends)
     alone : (gs : List Field) → fs ≡ fields f (t .value) ++ gs → Ends (end (t .value)) gs a → fs ≡ fields f a
     alone [] split same = split ∙ append-nil (fields f (t .value)) ∙ ap (λ a. fields f a) same
     alone (g ∷ gs) split same = absurd same
-
--- Where a layout parses, the units are as many as it encodes to and those left.
-pub parsed-length : {A : Type 0} (F : Fixed) → Sensible F → Literal F → (L : Layout A) (us : List ℕ) → Below (F .base) us → (a : A) (rest : List ℕ)
-    → parse (fixed F) L us ≡ found a rest → length us ≡ length (encode (spellFixed F) L a) + length rest
-parsed-length F S lit L us b a rest e =
-    ap length (parsed-good F S lit L us b a rest e .1) ∙ length-append (encode (spellFixed F) L a) rest

@@ -2,6 +2,7 @@
 use crate::prims::Kept;
 use crate::prims::Unit;
 use crate::prims::get;
+use crate::prims::get_flag;
 use crate::prims::put;
 use crate::prims::refusal;
 use crate::prims::step;
@@ -31,7 +32,7 @@ ghost use Rattle.drawing.specs.Fields as F;
 ghost use Rattle.memory.specs.Sizes.{isField};
 ghost use Rattle.ways.specs.Steps.{Refused, Keeps, Small};
 ghost use Rattle.ways.specs.Faults.{Between};
-ghost use Rattle.ways.specs.FieldPassLaws.{shadeKind};
+ghost use Rattle.ways.specs.FieldPassLaws.{flagKind, shadeKind};
 ghost use Rattle.from_file.specs.Way.{way, units};
 ghost use Rattle.from_file.specs.Lays.{Begins, Asks, Ranges, Counts};
 
@@ -130,11 +131,44 @@ pub fn byte(src: &[Unit], dst: &mut [Kept], at: usize, to: usize, low: u64, high
     ranged(&*src, dst, at, to, 1, low, high, OUT_OF_RANGE)
 }
 
+// What is wrong with a flag: this where it is true, 0 for nothing. A word of a table may be neither.
+fn flag_fault(fault: u32, value: u64) -> u32
+    ensures { λ r. ⌜ r ≡ faultOf 5 (flagKind fault) value ⌝ }
+{
+    if value == 0 {
+        return 0;
+    }
+    if value == 1 {
+        return fault;
+    }
+    BAD_FLAG
+}
+
+// A flag with this fault where it is true.
+fn flagged(src: &[Unit], dst: &mut [Kept], at: usize, to: usize, fault: u32) -> FieldPass
+    requires { ⌜ Begins (units (now src)) at to ⌝ }
+    ensures { λ r. ⌜ Asks (flagKind fault) (units (now (src .entry))) (now (dst .entry)) (now (dst .exit)) at to r ⌝ }
+{
+    if there(&*src, at, 1, 1) {
+        let value = get_flag(&*src, at);
+        return kept(dst, at, to, 1, value, flag_fault(fault, value));
+    }
+    cut(at, to)
+}
+
 pub fn flag(src: &[Unit], dst: &mut [Kept], at: usize, to: usize) -> FieldPass
     requires { ⌜ Begins (units (now src)) at to ⌝ }
     ensures { λ r. ⌜ Asks F.flag (units (now (src .entry))) (now (dst .entry)) (now (dst .exit)) at to r ⌝ }
 {
-    ranged(&*src, dst, at, to, 1, 0, 1, BAD_FLAG)
+    flagged(&*src, dst, at, to, 0)
+}
+
+// No flow frame data is carried.
+pub fn flow_flag(src: &[Unit], dst: &mut [Kept], at: usize, to: usize) -> FieldPass
+    requires { ⌜ Begins (units (now src)) at to ⌝ }
+    ensures { λ r. ⌜ Asks F.flowFlag (units (now (src .entry))) (now (dst .entry)) (now (dst .exit)) at to r ⌝ }
+{
+    flagged(&*src, dst, at, to, FLOW_FRAME)
 }
 
 pub fn integer(src: &[Unit], dst: &mut [Kept], at: usize, to: usize) -> FieldPass
@@ -232,30 +266,6 @@ pub fn font_size(src: &[Unit], dst: &mut [Kept], at: usize, to: usize) -> FieldP
     if there(&*src, at, 4, 1) {
         let word = get(&*src, at, 4);
         return kept(dst, at, to, 4, word, size_fault(word as u32));
-    }
-    cut(at, to)
-}
-
-// No flow frame data is carried.
-fn flow_fault(flow: u64) -> u32
-    ensures { λ r. ⌜ r ≡ faultOf 5 F.flowFlag flow ⌝ }
-{
-    if flow == 0 {
-        return 0;
-    }
-    if flow == 1 {
-        return FLOW_FRAME;
-    }
-    BAD_FLAG
-}
-
-pub fn flow_flag(src: &[Unit], dst: &mut [Kept], at: usize, to: usize) -> FieldPass
-    requires { ⌜ Begins (units (now src)) at to ⌝ }
-    ensures { λ r. ⌜ Asks F.flowFlag (units (now (src .entry))) (now (dst .entry)) (now (dst .exit)) at to r ⌝ }
-{
-    if there(&*src, at, 1, 1) {
-        let flow = get(&*src, at, 1);
-        return kept(dst, at, to, 1, flow, flow_fault(flow));
     }
     cut(at, to)
 }

@@ -13,6 +13,7 @@ ghost use mathlib.Core.Bool.{true};
 ghost use Prim.Native.Nat.{_+_, _*_, _^_, _<_, _≤_};
 ghost use lib.ListN.{length};
 ghost use Rattle.format.specs.Digits.{digits};
+ghost use Rattle.format.specs.Kind.{flag};
 ghost use Rattle.format.specs.Pass.{put};
 ghost use Rattle.drawing.specs.Limits.{lengthLimit};
 ghost use Rattle.memory.specs.Sizes.{isField, isRun};
@@ -51,6 +52,17 @@ pub fn get(src: &[Unit], at: usize, size: usize) -> u64
         4 => word_at(&*src, at) as u64,
         _ => double_at(&*src, at),
     }
+}
+
+// A flag: any byte but 0 is true.
+pub fn get_flag(src: &[Unit], at: usize) -> u64
+    requires { ⌜ at + sourceUnits way 1 ≤ length (units (now src)) ⌝ }
+    ensures { λ r. ⌜ (r ≡ way .source .meant flag (valueAt way 1 (units (now (src .entry))) at)) × (r < way .source .base ^ sourceUnits way 1) ⌝ }
+{
+    if src[at] != 0 {
+        return 1;
+    }
+    0
 }
 
 pub fn put(dst: &mut [Kept], to: usize, size: usize, value: u64)

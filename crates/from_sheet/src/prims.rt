@@ -18,6 +18,7 @@ ghost use mathlib.Core.Bool.{true};
 ghost use Prim.Native.Nat.{_+_, _*_, _/_, _^_, _<_, _≤_};
 ghost use lib.ListN.{length, getD, drop};
 ghost use Rattle.format.specs.Digits.{digits};
+ghost use Rattle.format.specs.Kind.{flag};
 ghost use Rattle.format.specs.Pass.{splice};
 ghost use Rattle.format.specs.Recode.{recoded};
 ghost use Rattle.drawing.specs.Limits.{lengthLimit};
@@ -67,6 +68,14 @@ pub fn get(src: &[Unit], at: usize, size: usize) -> u64
         return word_in(&*src, at) as u64;
     }
     from_halves(word_in(&*src, at), word_in(&*src, at + 1))
+}
+
+// A flag: the word itself, which may be neither 0 nor 1.
+pub fn get_flag(src: &[Unit], at: usize) -> u64
+    requires { ⌜ at + sourceUnits way 1 ≤ length (units (now src)) ⌝ }
+    ensures { λ r. ⌜ (r ≡ way .source .meant flag (valueAt way 1 (units (now (src .entry))) at)) × (r < way .source .base ^ sourceUnits way 1) ⌝ }
+{
+    get(&*src, at, 1)
 }
 
 // A field for which there is room.

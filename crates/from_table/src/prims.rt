@@ -12,6 +12,7 @@ ghost use mathlib.Core.Bool.{true};
 ghost use Prim.Native.Nat.{_+_, _*_, _^_, _<_, _≤_};
 ghost use lib.ListN.{length, getD};
 ghost use Rattle.format.specs.Digits.{digits};
+ghost use Rattle.format.specs.Kind.{flag};
 ghost use Rattle.format.specs.Pass.{put};
 ghost use Rattle.drawing.specs.Limits.{lengthLimit};
 ghost use Rattle.memory.specs.Sizes.{isField, isRun};
@@ -56,6 +57,14 @@ pub fn word_in(src: &[Unit], at: usize) -> u32
     ensures { λ r. ⌜ r ≡ getD (units (now (src .entry))) at 0 ⌝ }
 {
     src[at]
+}
+
+// A flag: the word itself, which may be neither 0 nor 1.
+pub fn get_flag(src: &[Unit], at: usize) -> u64
+    requires { ⌜ at + sourceUnits way 1 ≤ length (units (now src)) ⌝ }
+    ensures { λ r. ⌜ (r ≡ way .source .meant flag (valueAt way 1 (units (now (src .entry))) at)) × (r < way .source .base ^ sourceUnits way 1) ⌝ }
+{
+    get(&*src, at, 1)
 }
 
 pub fn put(dst: &mut [Kept], to: usize, size: usize, value: u64)

@@ -12,9 +12,9 @@ pub use drawing::Span;
 pub use drawing::TextAnswer;
 pub use drawing::Which;
 
-// Reads a file into a table: contents, a row of four words an object, and bodies. Number 0 with the file's length and the counts of rows and words; 1 with
-// 65,535; 2 to 12 with the offset of the field at fault; 13 with that of the first byte behind the drawing; 14 or 15, where there is no room, with the file's
-// length and the counts needed. Memory changes only with number 0.
+// Reads a file into a table: contents, a row of four words an object, and bodies. In a flag any byte but 0 is true, and its word is 1. Number 0 with the
+// file's length and the counts of rows and words; 1 with 65,535; 2 to 12, never 5, with the offset of the field at fault; 13 with that of the first byte behind
+// the drawing; 14 or 15, where there is no room, with the file's length and the counts needed. Memory changes only with number 0.
 pub fn read(file: &[u8], contents: &mut [u32], bodies: &mut [u32]) -> Answer
     ensures { λ r. ⌜ Reads (now (file .entry)) (now (contents .entry)) (now (bodies .entry)) r (now (contents .exit)) (now (bodies .exit)) ⌝ }
 {
@@ -28,7 +28,7 @@ pub fn check(contents: &[u32], bodies: &[u32]) -> Answer
     table::answers::check(contents, bodies)
 }
 
-// Writes the file that a table comes from. Number 0 with the file's length and the counts; 16 where there is no such file; 17, with the bytes needed
+// Writes the file that a table comes from, a true flag as 1. Number 0 with the file's length and the counts; 16 where there is no such file; 17, with the bytes needed
 // as offset, where there is no room. Memory changes only with number 0, and nothing past the file.
 pub fn write(contents: &[u32], bodies: &[u32], file: &mut [u8]) -> Answer
     ensures { λ r. ⌜ Writes (now (contents .entry)) (now (bodies .entry)) (now (file .entry)) r (now (file .exit)) ⌝ }

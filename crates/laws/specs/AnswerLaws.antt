@@ -1,7 +1,8 @@
--- Demand 2 on the answers: what a read accepts, a write turns back into the same bytes, and what a write gives, a read turns back into the
--- same table. A call answers 0 exactly when its definition says so, and then with the drawing's own counts.
+-- Demand 2 on the answers: what a read accepts, a write turns back into its normal form, and what a write gives, a read turns back into the same
+-- table. A call answers 0 exactly when its definition says so, and then with the drawing's own counts.
 use mathlib.Core.Path.{_≡_, refl, sym, ap, ap₂, _∙_, subst}
 use mathlib.Core.Logic.{_↔_}
+use mathlib.Core.Bool.{Bool, true, false}
 use mathlib.Core.Option.{Option, none, some}
 use Prim.Native.Nat.{ℕ, zero, suc, _*_, _/_, _^_, _≤_}
 use mathlib.Core.List.{List}
@@ -17,9 +18,12 @@ use Rattle.drawing.specs.Codecs.{byteFields}
 use Rattle.format.specs.FixedCodecLaws.{below-spelled}
 use Rattle.laws.specs.CodecLaws.{bytes-sensible}
 use Rattle.format.specs.Format.{fields}
-use Rattle.drawing.specs.Drawing.{Drawing, outer, file as fileLayout, fileOf, Acceptable}
+use Rattle.drawing.specs.Drawing.{Drawing, outer, file as fileLayout, fileOf, IsFile}
+use Rattle.drawing.specs.NormalForm.{normalForm}
 use Rattle.drawing.specs.Reading.{Reading, drawing, refusal, drawingOf}
-use Rattle.laws.specs.DrawingLaws.{drawing-of-bytes, refusal-positive}
+use Rattle.laws.specs.DrawingLaws.{own-file, file-length, drawing-of-bytes, refusal-of-bytes, refusal-positive}
+use Rattle.laws.specs.NumberLaws.{refusal-numbers}
+use Rattle.laws.specs.NormalFormLaws.{normal-form-is}
 use Rattle.drawing.specs.Table.{IsTable, headWords, contentsOf, bodiesOf}
 use Rattle.drawing.specs.TableDrawing.{drawingOfTable}
 use Rattle.laws.specs.TableLaws.{drawing-of-table, table-complete}
@@ -34,8 +38,7 @@ take-overwrite new buffer n e = take-at new (drop (length new) buffer) n e
 -- A file was accepted, with a drawing and room for its table.
 pub record Accepted (file contents bodies : List ℕ) : Type 0 where
   pub drawing : Drawing
-  pub acceptable : Acceptable drawing
-  pub file-is : file ≡ fileOf drawing
+  pub is-file : IsFile file drawing
   pub rows-fit : rowsOf drawing ≤ length contents / 4
   pub words-fit : wordCount drawing ≤ length bodies
 
@@ -59,7 +62,7 @@ pub read-gives : (file contents bodies : List ℕ) → Below 256 file → (a : A
     → readResult file contents bodies
     ≡ record { answer = answer 0 (length file) (rowsOf (a .drawing)) (wordCount (a .drawing)); contents = overwrite (contentsOf (a .drawing)) contents; bodies = overwrite (bodiesOf (a .drawing)) bodies }
 read-gives file contents bodies b a =
-    ap (λ r. readFrom r (length file) contents bodies) (drawing-of-bytes file b (a .drawing) .1 (a .acceptable, a .file-is))
+    ap (λ r. readFrom r (length file) contents bodies) (drawing-of-bytes file b (a .drawing) .1 (a .is-file))
     ∙ ap (λ f. stored f (a .drawing) (length file) contents bodies) (fits-room (a .drawing) contents bodies (a .rows-fit) (a .words-fit))
 
 -- The answer is 0 exactly when the file is a drawing's, and the drawing's table fits the room.
@@ -69,12 +72,28 @@ read-accepts file contents bodies b = (there (drawingOf file) refl, back)
     there : (r : Reading) → drawingOf file ≡ r → readFrom r (length file) contents bodies .answer .number ≡ 0 → Accepted file contents bodies
     there (refusal n o) p e = absurd (omega (arith, refusal-positive file b n o p))
     there (drawing d) p e =
-        let x = drawing-of-bytes file b d .0 p in
         let f = room-fits d contents bodies (stored-zero (roomFault d contents bodies) d (length file) contents bodies e) in
-        record { drawing = d; acceptable = x .0; file-is = x .1; rows-fit = f .0; words-fit = f .1 }
+        record { drawing = d; is-file = drawing-of-bytes file b d .0 p; rows-fit = f .0; words-fit = f .1 }
 
     back : Accepted file contents bodies → readResult file contents bodies .answer .number ≡ 0
     back a = ap (λ r. r .answer .number) (read-gives file contents bodies b a)
+
+-- No answer is 5: in a file a flag's byte is true or false, whatever it is.
+pub read-never-five : (file contents bodies : List ℕ) → Below 256 file → readResult file contents bodies .answer .number ≡ 5 → ⊥
+read-never-five file contents bodies b = by (drawingOf file) refl
+  where
+    number-is : (f : ℕ) (d : Drawing) → stored f d (length file) contents bodies .answer .number ≡ f
+    number-is zero d = refl
+    number-is (suc n) d = refl
+
+    no-room : (s t : Bool) → orElse (unless s 14) (unless t 15) ≡ 5 → ⊥
+    no-room true true e = omega arith
+    no-room true false e = omega arith
+    no-room false t e = omega arith
+
+    by : (r : Reading) → drawingOf file ≡ r → readFrom r (length file) contents bodies .answer .number ≡ 5 → ⊥
+    by (refusal n o) p e = refusal-numbers file b n o (refusal-of-bytes file b n o .0 p) .1 e
+    by (drawing d) p e = no-room (leb (rowsOf d) (length contents / 4)) (leb (wordCount d) (length bodies)) (sym (number-is (roomFault d contents bodies) d) ∙ e)
 
 -- ---- writing
 
@@ -119,19 +138,30 @@ abbrev WrittenBack : (file out : List ℕ) → ReadResult → Type 0
 WrittenBack file out r =
     writeOutput (take (4 * r .answer .rows) (r .contents)) (take (r .answer .words) (r .bodies)) out ≡ record { answer = r .answer; buffer = overwrite file out }
 
--- What a read gives, a write turns back into the same bytes.
-pub read-then-write : (file contents bodies out : List ℕ) → Below 256 file → readResult file contents bodies .answer .number ≡ 0 → length file ≤ length out
-    → WrittenBack file out (readResult file contents bodies)
-read-then-write file contents bodies out b accepted room =
-    let a = read-accepts file contents bodies b .0 accepted in
+-- What a read gives, a write turns back into the file's normal form.
+pub read-then-write : (file contents bodies out : List ℕ) → Below 256 file → (a : Accepted file contents bodies) → length file ≤ length out
+    → WrittenBack (normalForm (a .drawing) file) out (readResult file contents bodies)
+read-then-write file contents bodies out b a room =
     let d = a .drawing in
-    let fits : length (fileOf d) ≤ length out = subst (λ l. length l ≤ length out) (a .file-is) room in
-    subst (WrittenBack file out) (sym (read-gives file contents bodies b a))
+    let long = file-length (a .is-file) in
+    let fits : length (fileOf d) ≤ length out = omega arith in
+    subst (WrittenBack (normalForm d file) out) (sym (read-gives file contents bodies b a))
     (ap₂ (λ x y. writeOutput x y out)
     (take-overwrite (contentsOf d) contents (4 * rowsOf d) (contents-length (outer d) (d .version) 0 0 (length (headWords d))))
     (take-overwrite (bodiesOf d) bodies (wordCount d) refl)
-    ∙ write-drawing (contentsOf d) (bodiesOf d) out d (table-complete d (a .acceptable)) fits
-    ∙ ap {B = Output} (λ f. record { answer = answer 0 (length f) (rowsOf d) (wordCount d); buffer = overwrite f out }) (sym (a .file-is)))
+    ∙ write-drawing (contentsOf d) (bodiesOf d) out d (table-complete d (a .is-file .acceptable)) fits
+    ∙ ap₂ {C = Output} (λ n f. record { answer = answer 0 n (rowsOf d) (wordCount d); buffer = overwrite f out }) (sym long) (sym (normal-form-is file d (a .is-file .spelled))))
+
+-- The normal form reads as the file does.
+pub read-normal : (file contents bodies : List ℕ) → Below 256 file → (a : Accepted file contents bodies)
+    → readResult (normalForm (a .drawing) file) contents bodies ≡ readResult file contents bodies
+read-normal file contents bodies b a =
+    let d = a .drawing in
+    let again : Accepted (fileOf d) contents bodies = record { drawing = d; is-file = own-file d (a .is-file .acceptable); rows-fit = a .rows-fit; words-fit = a .words-fit } in
+    ap (λ f. readResult f contents bodies) (normal-form-is file d (a .is-file .spelled))
+    ∙ read-gives (fileOf d) contents bodies (below-spelled byteFields bytes-sensible (fields (fileLayout .format) d)) again
+    ∙ ap {B = ReadResult} (λ n. record { answer = answer 0 n (rowsOf d) (wordCount d); contents = overwrite (contentsOf d) contents; bodies = overwrite (bodiesOf d) bodies }) (sym (file-length (a .is-file)))
+    ∙ sym (read-gives file contents bodies b a)
 
 -- What is read of the bytes that a write gave.
 abbrev ReadBack : (contents bodies c d : List ℕ) → Output → Type 0
@@ -149,8 +179,7 @@ write-then-read contents bodies file c d b accepted rows-fit words-fit =
     let a : Accepted (fileOf D) c d =
     record {
       drawing = D;
-      acceptable = w .is-table .acceptable;
-      file-is = refl;
+      is-file = own-file D (w .is-table .acceptable);
       rows-fit = subst (λ o. o .answer .rows ≤ length c / 4) g rows-fit;
       words-fit = subst (λ o. o .answer .words ≤ length d) g words-fit;
     } in

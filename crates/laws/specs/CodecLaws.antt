@@ -1,12 +1,13 @@
--- The codecs of files and of tables are lawful, and each value has one spelling.
+-- The codecs of files and of tables are lawful, and in a table each value has one spelling.
 use mathlib.Core.Path.{_≡_, refl}
 use Prim.Native.Nat.{ℕ, zero, suc, _^_, _+_, _/_, _*_, _≤_}
 use lib.Pow.{pow-add}
 use native.Mathlib.Omega.{arith}
 use native.Mathlib.Nat as Nat
 use Rattle.format.specs.Kind.{Shape, flag, byte, char, integer, float, double, stringLength, stringChar, chars, size, values}
-use Rattle.format.specs.FixedCodecLaws.{Sensible, Literal, literal-sensible, literal-literal}
-use Rattle.drawing.specs.Codecs.{byteFields, wordFields}
+use Rattle.format.specs.FixedCodecLaws.{Sensible, Literal, standing-sensible, literal-sensible, literal-literal}
+use Rattle.drawing.specs.Codecs.{meant, byteFields, wordFields}
+use Rattle.drawing.specs.FlagLaws.{meant-same}
 
 -- A field's values fit its bytes.
 values-fit : (s : Shape) → values s ≤ 256 ^ size s
@@ -21,10 +22,7 @@ values-fit (stringChar last) = omega arith
 values-fit (chars n) = Nat.le-refl (256 ^ (2 * n))
 
 pub bytes-sensible : Sensible byteFields
-bytes-sensible = literal-sensible 256 size 2 5 (omega arith) (omega arith) values-fit
-
-pub bytes-literal : Literal byteFields
-bytes-literal = literal-literal 256 size 2 5
+bytes-sensible = standing-sensible 256 size meant 2 5 (omega arith) (omega arith) meant-same values-fit
 
 -- Bytes four at a time fill words.
 word-powers : (k : ℕ) → (2 ^ 32) ^ k ≡ 256 ^ (4 * k)

@@ -1,4 +1,4 @@
--- Demand 2 for bytes: the drawing of these bytes is the one whose file they are, and otherwise there is one refusal, as 01 orders them.
+-- Demand 2 for bytes: the drawing of these bytes is the one that they spell, and otherwise there is one refusal, as 01 orders them.
 use mathlib.Core.Path.{_≡_, refl, sym, ap, ap₂, _∙_, subst}
 use mathlib.Core.Logic.{_↔_, _⊎_, inl, inr}
 use mathlib.Core.Bool.{Bool, true, false, cond}
@@ -10,21 +10,34 @@ use native.Mathlib.Omega.{arith}
 use borrow.Author.Tests.{ltb-true, ltb-false, lt-ltb, le-ltb}
 use Rattle.format.specs.Digits.{Below}
 use Rattle.format.specs.Codec.{Outcome, found, refused}
-use Rattle.format.specs.Spelling.{spellAll}
-use Rattle.format.specs.FixedCodec.{spellFixed, Cut, Faulty}
+use Rattle.format.specs.FixedCodec.{SpelledBy, Cut, Faulty}
+use Rattle.format.specs.Format.{fields}
 use Rattle.drawing.specs.Codecs.{byteFields}
 use Rattle.drawing.specs.Reading.{bytes, drawing, refusal, reading, drawingOf}
-use Rattle.format.specs.FixedCodecLaws.{fault-positive}
-use Rattle.laws.specs.CodecLaws.{bytes-sensible, bytes-literal}
+use Rattle.format.specs.FixedCodecLaws.{fault-positive, spelled-long}
+use Rattle.laws.specs.CodecLaws.{bytes-sensible}
 use Rattle.format.specs.Parse.{parse}
-use Rattle.format.specs.FixedLayoutLaws.{parse-encoded, parse-encoded-alone, parsed-good, encode-unique, refused-stopped}
+use Rattle.format.specs.FixedLayoutLaws.{parse-spelled, encoded-spelled, parsed-spelt, refused-stopped}
 use Rattle.drawing.specs.Limits.{lengthLimit}
-use Rattle.drawing.specs.Drawing.{Drawing, file, fileOf, Acceptable}
+use Rattle.drawing.specs.Drawing.{Drawing, file, fileOf, IsFile, Acceptable}
 use Rattle.drawing.specs.Refusal.{AtField, Trailing, Refused}
 
--- No two drawings have the same file.
-pub file-unique : (d e : Drawing) → file .Good d → file .Good e → fileOf d ≡ fileOf e → d ≡ e
-file-unique d e g h p = encode-unique byteFields bytes-sensible bytes-literal file d e [] [] g h (ap (λ l. l ++ []) p) .0
+-- A drawing's file is one, and every file of a drawing is as long.
+pub own-file : (d : Drawing) → Acceptable d → IsFile (fileOf d) d
+own-file d a = record { acceptable = a; spelled = encoded-spelled byteFields bytes-sensible file d (a .good) }
+
+pub file-length : {bs : List ℕ} {d : Drawing} → IsFile bs d → length bs ≡ length (fileOf d)
+file-length {bs} {d} f = spelled-long byteFields (fields (file .format) d) bs (f .spelled)
+
+-- Bytes that spell a drawing parse to it.
+spelled-parse : (bs : List ℕ) (d : Drawing) → file .Good d → SpelledBy byteFields (fields (file .format) d) bs → parse bytes file bs ≡ found d []
+spelled-parse bs d g p = ap (parse bytes file) (sym (append-nil bs)) ∙ parse-spelled byteFields bytes-sensible file d g bs [] p
+
+-- No bytes are a file of two drawings.
+pub file-unique : (bs : List ℕ) (d e : Drawing) → IsFile bs d → IsFile bs e → d ≡ e
+file-unique bs d e f g =
+    let same : _≡_ {A = Outcome Drawing} (found d []) (found e []) = sym (spelled-parse bs d (f .acceptable .good) (f .spelled)) ∙ spelled-parse bs e (g .acceptable .good) (g .spelled) in
+    cc
 
 reading-drawing : (total : ℕ) (o : Outcome Drawing) (d : Drawing) → reading total o ≡ drawing d → o ≡ found d []
 reading-drawing total (found x []) d e = cc
@@ -42,21 +55,21 @@ short-reading bs h o e =
     ap (λ t. cond t (refusal 1 lengthLimit) (reading (length bs) (parse bytes file bs))) (le-ltb lengthLimit (length bs) h)
     ∙ ap (reading (length bs)) e
 
--- The drawing of these bytes is d exactly when d is acceptable and the bytes are d's file.
-pub drawing-of-bytes : (bs : List ℕ) → Below 256 bs → (d : Drawing) → (drawingOf bs ≡ drawing d) ↔ (Acceptable d × (bs ≡ fileOf d))
+-- The drawing of these bytes is d exactly when they are a file of d.
+pub drawing-of-bytes : (bs : List ℕ) → Below 256 bs → (d : Drawing) → (drawingOf bs ≡ drawing d) ↔ IsFile bs d
 drawing-of-bytes bs b d = (there, back)
   where
-    there : drawingOf bs ≡ drawing d → Acceptable d × (bs ≡ fileOf d)
+    there : drawingOf bs ≡ drawing d → IsFile bs d
     there e =
         let j = accepted bs (parse bytes file bs) (ltb lengthLimit (length bs)) refl d e in
-        let s = parsed-good byteFields bytes-sensible bytes-literal file bs b d [] (j .1) in
-        let same : bs ≡ fileOf d = s .1 ∙ append-nil (fileOf d) in
-        (record { good = s .0; short = rw same at (j .0) }, same)
+        let s = parsed-spelt byteFields bytes-sensible file bs b d [] (j .1) in
+        let same : s .front ≡ bs = sym (s .split ∙ append-nil (s .front)) in
+        let spelled : SpelledBy byteFields (fields (file .format) d) bs = subst (SpelledBy byteFields (fields (file .format) d)) same (s .spelled) in
+        let long = spelled-long byteFields (fields (file .format) d) bs spelled in
+        record { acceptable = record { good = s .good; short = omega (arith, long, j .0) }; spelled = spelled }
 
-    back : Acceptable d × (bs ≡ fileOf d) → drawingOf bs ≡ drawing d
-    back (a, e) =
-        ap drawingOf e
-        ∙ short-reading (fileOf d) (a .short) (found d []) (parse-encoded-alone byteFields bytes-sensible bytes-literal file d (a .good))
+    back : IsFile bs d → drawingOf bs ≡ drawing d
+    back f = short-reading bs (omega (arith, file-length f, f .acceptable .short)) (found d []) (spelled-parse bs d (f .acceptable .good) (f .spelled))
 
 -- ---- refusals
 
@@ -69,30 +82,34 @@ said : (bs : List ℕ) → Below 256 bs → length bs ≤ lengthLimit → (o : O
     → reading (length bs) o ≡ refusal n offset → AtField bs n offset ⊎ Trailing bs n offset
 said bs b short (found d []) p n offset e = let z : _≡_ {A = ℕ} 0 1 = cc in absurd (omega arith)
 said bs b short (found d (x ∷ rest)) p n offset e =
-    let s = parsed-good byteFields bytes-sensible bytes-literal file bs b d (x ∷ rest) p in
+    let s = parsed-spelt byteFields bytes-sensible file bs b d (x ∷ rest) p in
     let q : length bs - length (x ∷ rest) ≡ offset = cc in
     inr (record {
       short = short;
       drawing = d;
+      front = s .front;
       rest = x ∷ rest;
-      good = s .0;
-      split = s .1;
+      good = s .good;
+      split = s .split;
+      spelled = s .spelled;
       some-left = omega arith;
       number-is = cc;
-      offset-is = sym q ∙ offset-of bs (fileOf d) (x ∷ rest) (s .1);
+      offset-is = sym q ∙ offset-of bs (s .front) (x ∷ rest) (s .split);
     })
 said bs b short (refused m at) p n offset e =
-    let s = refused-stopped byteFields bytes-sensible bytes-literal file bs b m at .0 p in
+    let s = refused-stopped byteFields bytes-sensible file bs b m at .0 p in
     let number : m ≡ n = cc in
     let q : length bs - length at ≡ offset = cc in
     inl (record {
       short = short;
       fields = s .fields;
       kind = s .kind;
+      front = s .front;
       back = at;
       asks = s .asks;
       split = s .split;
-      offset-is = sym q ∙ offset-of bs (spellAll (spellFixed byteFields) (s .fields)) at (s .split);
+      spelled = s .spelled;
+      offset-is = sym q ∙ offset-of bs (s .front) at (s .split);
       at-fault = subst (λ x. Cut byteFields (s .kind) at x ⊎ Faulty byteFields (s .kind) at x) number (s .at-fault);
     })
 
@@ -118,14 +135,14 @@ refusal-of-bytes bs b n offset = (there, back)
         ap (λ t. cond t (refusal 1 lengthLimit) (reading (length bs) (parse bytes file bs))) (lt-ltb lengthLimit (length bs) (h .long))
         ∙ ap₂ (λ x y. refusal x y) (sym (h .number-is)) (sym (h .offset-is))
     back (inr (inl h)) =
-        let p = refused-stopped byteFields bytes-sensible bytes-literal file bs b n (h .back) .1 (record { fields = h .fields; kind = h .kind; asks = h .asks; split = h .split; at-fault = h .at-fault }) in
+        let p = refused-stopped byteFields bytes-sensible file bs b n (h .back) .1 (record { fields = h .fields; kind = h .kind; front = h .front; asks = h .asks; split = h .split; spelled = h .spelled; at-fault = h .at-fault }) in
         short-reading bs (h .short) (refused n (h .back)) p
-        ∙ ap (λ x. refusal n x) (offset-of bs (spellAll (spellFixed byteFields) (h .fields)) (h .back) (h .split) ∙ sym (h .offset-is))
+        ∙ ap (λ x. refusal n x) (offset-of bs (h .front) (h .back) (h .split) ∙ sym (h .offset-is))
     back (inr (inr h)) =
-        let p : parse bytes file bs ≡ found (h .drawing) (h .rest) = ap (parse bytes file) (h .split) ∙ parse-encoded byteFields bytes-sensible bytes-literal file (h .drawing) (h .good) (h .rest) in
+        let p : parse bytes file bs ≡ found (h .drawing) (h .rest) = ap (parse bytes file) (h .split) ∙ parse-spelled byteFields bytes-sensible file (h .drawing) (h .good) (h .front) (h .rest) (h .spelled) in
         short-reading bs (h .short) (found (h .drawing) (h .rest)) p
         ∙ left-over (length bs) (h .drawing) (h .rest) (h .some-left)
-        ∙ ap₂ (λ x y. refusal x y) (sym (h .number-is)) (offset-of bs (fileOf (h .drawing)) (h .rest) (h .split) ∙ sym (h .offset-is))
+        ∙ ap₂ (λ x y. refusal x y) (sym (h .number-is)) (offset-of bs (h .front) (h .rest) (h .split) ∙ sym (h .offset-is))
 
 -- The number of a refusal is never 0, so 0 says that the bytes were accepted.
 pub refusal-positive : (bs : List ℕ) → Below 256 bs → (n offset : ℕ) → drawingOf bs ≡ refusal n offset → 0 < n

@@ -1,5 +1,6 @@
 -- The laws of the drawing layer: that the definitions hang together and make the customer's demands.
 pub mod CodecLaws
+pub mod NormalFormLaws
 pub mod SizeLaws
 pub mod ObjectBytes
 pub mod ObjectGood
@@ -10,6 +11,7 @@ pub mod WalkComplete
 pub mod WalkSound
 pub mod TableLaws
 pub mod DrawingLaws
+pub mod NumberLaws
 pub mod OrderLaws
 pub mod CountLaws
 pub mod TableFileLaws
@@ -25,6 +27,5 @@ pub mod AnswerLaws
 pub mod RoomLaws
 pub mod ParseLaws
 pub mod FileParseLaws
-pub mod ReadingLaws
 pub mod SheetNumberLaws
 pub mod SheetLaws

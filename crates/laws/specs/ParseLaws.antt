@@ -13,9 +13,8 @@ use Rattle.format.specs.Digits.{Below}
 use Rattle.format.specs.Kind.{Kind, Allowed}
 use Rattle.format.specs.LeafLaws.{below-drop}
 use Rattle.format.specs.Codec.{Outcome, found, refused, andThen}
-use Rattle.format.specs.FixedCodec.{spellFixed}
-use Rattle.format.specs.FixedLayoutLaws.{parsed-good}
-use Rattle.format.specs.Layout.{Layout, field, either, renamed, counted, repeat, encode}
+use Rattle.format.specs.FixedLayoutLaws.{parsed-spelt}
+use Rattle.format.specs.Layout.{Layout, field, either, renamed, counted, repeat}
 use Rattle.format.specs.Parse.{parse}
 use Rattle.format.specs.FormatLaws.{each-length}
 use Rattle.format.specs.ParsingLaws.{andThen-andThen, parse-field, parse-implied, parse-either, parse-case, parse-renamed, parse-pair, andThen-same}
@@ -28,7 +27,7 @@ use Rattle.drawing.specs.ObjectId.{objectLetter, leafOf, groupOf}
 use Rattle.drawing.specs.ObjectLaws.{list-of-list, leaf-tells, object-tells, group-no-leaf}
 use Rattle.drawing.specs.LeafLayout.{isLeaf, leafBody, objectEnd}
 use Rattle.drawing.specs.ObjectLayout.{object, leafObject, groupObject, groupBody}
-use Rattle.laws.specs.CodecLaws.{bytes-sensible, bytes-literal}
+use Rattle.laws.specs.CodecLaws.{bytes-sensible}
 
 -- ---- places
 
@@ -41,8 +40,9 @@ pub record Behind (file : List ℕ) (at : ℕ) (rest : List ℕ) : Type 0 where
 pub behind : {A : Type 0} (L : Layout A) (file : List ℕ) (at : ℕ) → Below 256 file → at ≤ length file → (a : A) (rest : List ℕ)
     → parse bytes L (drop at file) ≡ found a rest → Behind file at rest
 behind L file at below inside a rest e =
-    let front = encode (spellFixed byteFields) L a in
-    let split : drop at file ≡ front ++ rest = parsed-good byteFields bytes-sensible bytes-literal L (drop at file) (below-drop 256 at file below) a rest e .1 in
+    let spelt = parsed-spelt byteFields bytes-sensible L (drop at file) (below-drop 256 at file below) a rest e in
+    let front = spelt .front in
+    let split : drop at file ≡ front ++ rest = spelt .split in
     let long : length file - at ≡ length front + length rest = sym (length-drop at file) ∙ ap length split ∙ length-append front rest in
     let place : at + length front ≡ length file - length rest = omega arith in
     record {

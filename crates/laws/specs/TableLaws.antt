@@ -64,7 +64,7 @@ table-complete d a =
     let bs = bodies (outer d) v in
     ap (behindHead (contentsOf d) (length (bodiesOf d)))
     (ap (λ h. parse words tableHead (h ++ bs)) (sym (head-words d parts))
-    ∙ parse-encoded wordFields words-sensible words-literal tableHead (v, d .settings) (parts .version, parts .settings) bs)
+    ∙ parse-encoded wordFields words-sensible tableHead (v, d .settings) (parts .version, parts .settings) bs)
     ∙ ap (λ at. wholeTable v (d .settings) (walkOuter v (place 0 (contentsOf d) at bs))) (words-used (headWords d) bs)
     ∙ ap (wholeTable v (d .settings)) (outer-met d parts (length (headWords d)))
     ∙ ap (λ t. cond t (some d) none) (le-leb (length (fileOf d)) lengthLimit (a .short))

@@ -38,7 +38,7 @@ pub body-met : {A : Type 0} (L : Layout A) (a : A) → L .Good a → (kind paren
     ≡ met a (record { row = own; contents = C; at = at + length (wordsOf L a); bodies = B })
 body-met L a g kind parent own at C B =
     ap (bodyFrom kind parent (row kind parent at (length (wordsOf L a))) (record { row = own; contents = C; at = at; bodies = wordsOf L a ++ B }))
-    (parse-encoded wordFields words-sensible words-literal L a g B)
+    (parse-encoded wordFields words-sensible L a g B)
     ∙ found-met a kind parent own at C (wordsOf L a) B
 
 -- ---- what a walk that was not lost has met

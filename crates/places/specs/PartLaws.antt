@@ -12,7 +12,7 @@ use Rattle.format.specs.Parse.{parse}
 use Rattle.drawing.specs.Reading as Reading
 use Rattle.drawing.specs.Codecs.{wordFields}
 use Rattle.drawing.specs.Table.{wordsOf}
-use Rattle.laws.specs.CodecLaws.{words-sensible, words-literal}
+use Rattle.laws.specs.CodecLaws.{words-sensible}
 use Rattle.laws.specs.Standing.{Here}
 use Rattle.ways.specs.Passes.{refused}
 use Rattle.ways.specs.Carries.{Laid}
@@ -30,7 +30,7 @@ module _ {A : Type 0} (L : Layout A) {ws m m′ : List ℕ} {at to at′ to′ :
   -- Whatever the layout, a pass over the words from a place where a good value stands ends right behind it.
   behind-here : (a : A) → Here L ws at a → (at′ < refused) × (at′ ≡ at + length (wordsOf L a))
   behind-here a here =
-      let parsed : parse Reading.words L (drop at ws) ≡ found a (here .rest) = ap (parse Reading.words L) (here .stands .words-are) ∙ parse-encoded wordFields words-sensible words-literal L a (here .good) (here .rest) in
+      let parsed : parse Reading.words L (drop at ws) ≡ found a (here .rest) = ap (parse Reading.words L) (here .stands .words-are) ∙ parse-encoded wordFields words-sensible L a (here .good) (here .rest) in
       let landed : Landed L way ws m m′ to at′ to′ a (here .rest) = subst (Lands L way ws m m′ to at′ to′) parsed (lands L words-sensible below inside laid) in
       let long : length ws - at ≡ length (wordsOf L a) + length (here .rest) = sym (length-drop at ws) ∙ ap length (here .stands .words-are) ∙ length-append (wordsOf L a) (here .rest) in
       (landed .on, omega (arith, landed .at-is, inside))

@@ -30,16 +30,16 @@ use Rattle.drawing.specs.TableDrawing.{drawingOfTable}
 use Rattle.drawing.specs.Sheet.{numberBytes, IsSheet}
 use Rattle.drawing.specs.SheetDrawing.{drawingOfSheet}
 use Rattle.drawing.specs.Order.{objectsOf, descriptionOf, entries, groupsAround, ParentChain}
-use Rattle.drawing.specs.Answers.{answer, overwrite, roomFault, stored, tableRefused, tableChecked, Output, nothingStored, tableWritten, sheetWritten, sheetRead, sheetRefused, listed, tableListed}
+use Rattle.drawing.specs.Answers.{answer, overwrite, roomFault, stored, tableRefused, tableChecked, Output, nothingStored, tableWritten, sheetWritten, sheetRead, sheetRefused, listed, tableListed, ReadResult}
 use Rattle.drawing.specs.Questions as Q
 use Rattle.drawing.specs.Questions.{CharsAt}
 use Rattle.drawing.specs.Path.{Outline}
 use Rattle.drawing.specs.Extent as E
 use Rattle.drawing.specs.Computed.{fromTable, readFrom, readResult, checkAnswer, writeOutput, sheetOutput, sheetResult, listOutput, paintAnswer, textValue, textIn, textAnswer, extentValue, extentAnswer}
-use Rattle.laws.specs.DrawingLaws.{drawing-of-bytes, refusal-of-bytes}
+use Rattle.laws.specs.DrawingLaws.{drawing-of-bytes, refusal-of-bytes, file-length}
 use Rattle.laws.specs.TableLaws.{drawing-of-table}
 use Rattle.laws.specs.SheetLaws.{drawing-of-sheet}
-use Rattle.laws.specs.AnswerLaws.{take-overwrite}
+use Rattle.laws.specs.AnswerLaws.{take-overwrite, read-never-five}
 use Rattle.laws.specs.EntryLaws.{entries-are, entries-increasing}
 use Rattle.laws.specs.OrderLaws.{leads}
 use Rattle.laws.specs.RowBodies.{RowBody}
@@ -54,15 +54,16 @@ reads {file} {contents} {bodies} below is =
     record {
       accepts = λ d f.
           is
-          ∙ ap (λ q. readFrom q (length file) contents bodies) (drawing-of-bytes file below d .1 (f .acceptable, f .bytes-are))
-          ∙ ap (λ n. stored (roomFault d contents bodies) d n contents bodies) (ap length (f .bytes-are));
+          ∙ ap (λ q. readFrom q (length file) contents bodies) (drawing-of-bytes file below d .1 f)
+          ∙ ap (λ n. stored (roomFault d contents bodies) d n contents bodies) (file-length f);
       refuses = λ n o f. is ∙ ap (λ q. readFrom q (length file) contents bodies) (refusal-of-bytes file below n o .1 f);
       one-or-other = by (drawingOf file) refl;
+      never-five = λ five. read-never-five file contents bodies below (sym (ap (λ (r : ReadResult). r .answer .number) is) ∙ five);
       says = is;
     }
   where
     by : (q : Reading) → drawingOf file ≡ q → ((d : Drawing) × IsFile file d) ⊎ ((n : ℕ) × (o : ℕ) × Refused file n o)
-    by (drawing d) e = let f = drawing-of-bytes file below d .0 e in inl (d, record { acceptable = f .0; bytes-are = f .1 })
+    by (drawing d) e = inl (d, drawing-of-bytes file below d .0 e)
     by (refusal n o) e = inr (n, o, refusal-of-bytes file below n o .0 e)
 
 -- ---- calls that take what one drawing has

@@ -16,6 +16,7 @@ use Rattle.drawing.specs.declared.PaintAnswer.the-variants as Paint
 use Rattle.drawing.specs.declared.Which.{Which}
 use Rattle.drawing.specs.declared.TextAnswer.{TextAnswer}
 use Rattle.drawing.specs.declared.ExtentAnswer.{ExtentAnswer}
+use Rattle.drawing.specs.Numbers.{badFlag}
 use Rattle.drawing.specs.String.{String}
 use Rattle.drawing.specs.Text.{Text}
 use Rattle.drawing.specs.Object.{Object}
@@ -36,12 +37,14 @@ abbrev pub readTo : Answer → (contents bodies : List ℕ) → ReadResult
 readTo r contents bodies = record { answer = r; contents = contents; bodies = bodies }
 
 pub record Reads (file contents bodies : List ℕ) (r : Answer) (contents′ bodies′ : List ℕ) : Type 0 where
-  -- the bytes are an acceptable drawing's file
+  -- the bytes are a file of an acceptable drawing: they spell it, a true flag by any byte but 0
   pub accepts : (d : Drawing) → IsFile file d → readTo r contents′ bodies′ ≡ fileRead d contents bodies
   -- the bytes are refused, with this number at this offset
   pub refuses : (number offset : ℕ) → Refused file number offset → readTo r contents′ bodies′ ≡ unread number offset contents bodies
   -- every run of bytes is one or the other
   pub one-or-other : ((d : Drawing) × IsFile file d) ⊎ ((number : ℕ) × (offset : ℕ) × Refused file number offset)
+  -- no flag is refused for its byte (R-4)
+  pub never-five : r .number ≡ badFlag → ⊥
   pub says : readTo r contents′ bodies′ ≡ readResult file contents bodies
 
 -- ---- calls that take what one drawing has: its table, or its sheet

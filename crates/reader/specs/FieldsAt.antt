@@ -1,4 +1,4 @@
--- One field of a file, by the number that its bytes write: it is cut, at fault, or a value.
+-- One field of a file that is no flag, by the number that its bytes write: it is cut, at fault, or a value.
 use mathlib.Core.Path.{_≡_, refl, sym, ap, _∙_}
 use mathlib.Core.Bool.{cond}
 use Prim.Native.Nat.{ℕ, zero, suc, _+_, _^_, _<_, _≤_}
@@ -12,6 +12,8 @@ use Rattle.format.specs.LeafLaws.{field-below}
 use Rattle.format.specs.Kind.{Kind, size, values}
 use Rattle.format.specs.Codec.{found, refused}
 use Rattle.format.specs.LiteralLaws.{read-cut, read-fault, read-value}
+use Rattle.drawing.specs.Codecs.{meant}
+use Rattle.drawing.specs.FlagLaws.{meant-plain, full-plain}
 use Rattle.drawing.specs.Reading.{bytes}
 
 abbrev pub numberAt : (size : ℕ) → List ℕ → ℕ → ℕ
@@ -31,17 +33,20 @@ module _ (k : Kind) (file : List ℕ) (at : ℕ) where
 
 module _ (file : List ℕ) (below : Below 256 file) (k : Kind) (all : values (k .shape) ≡ 256 ^ size (k .shape)) (at : ℕ) where
   pub cut-here : at ≤ length file → length file < at + size (k .shape) → bytes .read k (drop at file) ≡ refused 2 (drop at file)
-  cut-here inside short = read-cut 256 size 2 5 file at k (omega arith)
+  cut-here inside short = read-cut 256 size meant 2 5 file at k (omega arith)
 
   module _ (inside : at + size (k .shape) ≤ length file) where
     small : numberAt (size (k .shape)) file at < values (k .shape)
     small = rw all (field-below 256 file at (size (k .shape)) inside below)
 
+    same : numberAt (size (k .shape)) file at ≡ meant (k .shape) (numberAt (size (k .shape)) file at)
+    same = sym (meant-plain (k .shape) (numberAt (size (k .shape)) file at) (full-plain (k .shape) (size (k .shape)) refl all))
+
     pub fault-here : (n : ℕ) → k .fault (numberAt (size (k .shape)) file at) ≡ n → 0 < n → bytes .read k (drop at file) ≡ refused n (drop at file)
     fault-here zero is some = absurd (omega arith)
     fault-here (suc n) is some =
-        read-fault 256 size 2 5 file at k (numberAt (size (k .shape)) file at) inside refl n
+        read-fault 256 size meant 2 5 file at k (numberAt (size (k .shape)) file at) inside same n
         (ap (λ t. cond t (k .fault (numberAt (size (k .shape)) file at)) 5) (lt-ltb (numberAt (size (k .shape)) file at) (values (k .shape)) small) ∙ is)
 
     pub value-here : k .fault (numberAt (size (k .shape)) file at) ≡ 0 → bytes .read k (drop at file) ≡ found (numberAt (size (k .shape)) file at) (drop (at + size (k .shape)) file)
-    value-here fine = read-value 256 size 2 5 file at k (numberAt (size (k .shape)) file at) inside refl (record { fits = small; faultless = fine })
+    value-here fine = read-value 256 size meant 2 5 file at k (numberAt (size (k .shape)) file at) inside same (record { fits = small; faultless = fine })

@@ -14,7 +14,7 @@ use Rattle.format.specs.Kind as K
 use Rattle.format.specs.LeafLaws.{below-drop}
 use Rattle.format.specs.Codec.{Outcome, found, refused, andThen}
 use Rattle.format.specs.FormatLaws.{each-length}
-use Rattle.format.specs.FixedLayoutLaws.{parsed-good}
+use Rattle.format.specs.FixedLayoutLaws.{parsed-spelt}
 use Rattle.format.specs.Layout.{field, repeat}
 use Rattle.format.specs.Parse.{parse}
 use Rattle.format.specs.ParsingLaws.{andThen-andThen, andThen-same, parse-field}
@@ -28,7 +28,7 @@ use Rattle.drawing.specs.ObjectLaws.{list-of-list}
 use Rattle.drawing.specs.LeafLayout.{objectEnd}
 use Rattle.drawing.specs.ObjectLayout.{object}
 use Rattle.drawing.specs.Table.{wordsOf, groupKind, groupWords, rowWidth, row as rowWords, bodiesAll, contentsAll}
-use Rattle.laws.specs.CodecLaws.{bytes-sensible, bytes-literal}
+use Rattle.laws.specs.CodecLaws.{bytes-sensible}
 use Rattle.laws.specs.ParseLaws.{group-parse}
 use Rattle.ways.specs.declared.FieldPass.{FieldPass}
 use Rattle.ways.specs.Passes as Passes
@@ -114,7 +114,7 @@ module _ (file : List ℕ) (below : Below 256 file) (v deep parent at row to : �
         as-many =
             ap length (list-of-list (over .value))
             ∙ each-length (λ t. object v deep .Good) (λ t a. t) (q .value) tt (over .value)
-            (parsed-good byteFields bytes-sensible bytes-literal (repeat (q .value) (object v deep)) (drop (q .pass .at) file) (below-drop 256 (q .pass .at) file below) (over .value) (drop (s .at) file) (over .parsed) .0)
+            (parsed-spelt byteFields bytes-sensible (repeat (q .value) (object v deep)) (drop (q .pass .at) file) (below-drop 256 (q .pass .at) file below) (over .value) (drop (s .at) file) (over .parsed) .good)
 
         module _ {cs₂ bs₂ : List ℕ} {r : Walked}
             (rowed : Rowed (objectEnd v) groupKind parent (s .to) row (s .row) file cs₁ (put (s .to) (digits (2 ^ 32) 1 (q .value)) bs₁) cs₂ bs₂ (s .at) (s .to + 1) r) where

@@ -9,6 +9,4 @@ pub mod Heads
 pub mod OuterLaws
 pub mod Files
 pub mod FileLaws
-pub mod FaultLaws
-pub mod NumberLaws
 pub mod ReadLaws

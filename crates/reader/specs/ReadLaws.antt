@@ -28,7 +28,7 @@ use Rattle.ways.specs.Passes as Passes
 use Rattle.ways.specs.Written.{Writes}
 use Rattle.rows.specs.declared.walked.Walked.{Walked}
 use Rattle.reader.specs.Files.{Kept, ComesFile, DescendsFile}
-use Rattle.reader.specs.NumberLaws.{number-small}
+use Rattle.laws.specs.NumberLaws.{number-small}
 
 -- The file was found to hold a drawing, with so many rows and words, up to a place.
 pub record Judged (file : List ℕ) (at rows words : ℕ) : Type 0 where
@@ -67,15 +67,15 @@ offset-small file n o e = by (ltb lengthLimit (length file)) refl
         (ap (λ t. cond t (refusal 1 lengthLimit) (reading (length file) (parse bytes fileLayout file))) (sym is) ∙ e)
 
 module _ {file cs bs cs′ bs′ : List ℕ} {r : Walked} (descends : DescendsFile file cs bs cs′ bs′ r) where
-  pub judged-refused : Passes.refused ≤ r .at → Refused file (r .to) (r .at - Passes.refused)
-  judged-refused off = by (drawingOf file) refl (descends .comes)
+  pub judged-refused : Below 256 file → Passes.refused ≤ r .at → Refused file (r .to) (r .at - Passes.refused)
+  judged-refused below off = by (drawingOf file) refl (descends .comes)
     where
       by : (q : Reading) → drawingOf file ≡ q → ComesFile file cs bs cs′ bs′ r q → Refused file (r .to) (r .at - Passes.refused)
       by (drawing d) is kept = absurd (omega (arith, kept .at-is, kept .short))
       by (refusal n o) is gone =
           let back : o ≡ r .at - Passes.refused = omega (arith, gone .at-is) in
           let reads : drawingOf file ≡ refusal (r .to) (r .at - Passes.refused) = is ∙ ap₂ (λ x y. refusal x y) (sym (gone .to-is)) back in
-          record { reads = reads; small = number-small file (r .to) (r .at - Passes.refused) reads; near = offset-small file (r .to) (r .at - Passes.refused) reads }
+          record { reads = reads; small = number-small file below (r .to) (r .at - Passes.refused) reads; near = offset-small file (r .to) (r .at - Passes.refused) reads }
 
   pub judged-good : r .at < Passes.refused → Judged file (r .at) (r .row) (r .to)
   judged-good on = by (drawingOf file) refl (descends .comes)

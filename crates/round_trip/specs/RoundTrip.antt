@@ -8,6 +8,8 @@ use Rattle.format.specs.Digits.{Below}
 use Rattle.drawing.specs.declared.Answer.{Answer}
 use Rattle.drawing.specs.String.{String}
 use Rattle.drawing.specs.Text.{Text}
+use Rattle.drawing.specs.Drawing.{Drawing, IsFile}
+use Rattle.drawing.specs.NormalForm.{normalForm, Normal}
 use Rattle.drawing.specs.Table.{rowWidth}
 use Rattle.drawing.specs.Answers.{answer, overwrite}
 use Rattle.drawing.specs.Questions.{Found, part, refusal, partOf, leafPart, wording, shownChars}
@@ -19,8 +21,12 @@ pub record FileComesBack (file contents bodies copy contents′ bodies′ copy�
   pub reads : Reads file contents bodies (r .first) contents′ bodies′
   pub writes : r .first .number ≡ 0 → Writes (take (rowWidth * r .first .rows) contents′) (take (r .first .words) bodies′) copy (r .second) copy′
   pub refused : (r .first .number ≡ 0 → ⊥) → (r .second ≡ r .first) × (copy′ ≡ copy)
-  -- an accepted file comes back byte for byte, given room, and nothing past it changes
-  pub back : r .first .number ≡ 0 → length file ≤ length copy → (r .second ≡ r .first) × (copy′ ≡ overwrite file copy)
+  -- an accepted file comes back, given room, with each true flag made 1, and nothing past it changes
+  pub back : r .first .number ≡ 0 → length file ≤ length copy → (d : Drawing) → IsFile file d → (r .second ≡ r .first) × (copy′ ≡ overwrite (normalForm d file) copy)
+  -- byte for byte it comes back exactly when its flags are all 0 or 1
+  pub same : r .first .number ≡ 0 → length file ≤ length copy → (d : Drawing) → IsFile file d → Normal d file ↔ (copy′ ≡ overwrite file copy)
+  -- with each true flag made 1 it reads as before
+  pub again : r .first .number ≡ 0 → (d : Drawing) → IsFile file d → Reads (normalForm d file) contents bodies (r .first) contents′ bodies′
 
 -- A table that is written and read again. It is read only if it was written; otherwise the second answer is the first.
 pub record TableComesBack (contents bodies file contents₂ bodies₂ file′ contents₂′ bodies₂′ : List ℕ) (r : Both) : Type 0 where

@@ -10,7 +10,8 @@ use Rattle.format.specs.Format.{fields}
 use Rattle.format.specs.FixedCodecLaws.{below-spelled}
 use Rattle.drawing.specs.declared.Answer.{Answer}
 use Rattle.drawing.specs.Codecs.{byteFields}
-use Rattle.drawing.specs.Drawing.{Drawing, outer, file as fileLayout, fileOf}
+use Rattle.drawing.specs.Drawing.{Drawing, outer, file as fileLayout, fileOf, IsFile}
+use Rattle.drawing.specs.NormalForm.{normalForm}
 use Rattle.drawing.specs.Table.{headWords, contentsOf, bodiesOf}
 use Rattle.drawing.specs.TableDrawing.{drawingOfTable}
 use Rattle.drawing.specs.Answers.{answer, rowsOf, wordCount, overwrite, ReadResult, Output}
@@ -18,9 +19,11 @@ use Rattle.drawing.specs.Computed.{readResult, checkFrom, writeOutput}
 use Rattle.promises.specs.Promises.{Reads, Checks, Writes}
 use Rattle.promises.specs.PromiseLaws.{reads}
 use Rattle.laws.specs.CodecLaws.{bytes-sensible}
+use Rattle.laws.specs.DrawingLaws.{own-file, file-length, file-unique}
+use Rattle.laws.specs.NormalFormLaws.{normal-form-is, normal-is}
 use Rattle.laws.specs.OrderLaws.{contents-length}
 use Rattle.laws.specs.TableLaws.{drawing-of-table}
-use Rattle.laws.specs.AnswerLaws.{Accepted, read-accepts, read-gives, Writable, write-accepts, write-gives, read-then-write, write-then-read}
+use Rattle.laws.specs.AnswerLaws.{take-overwrite, Accepted, read-accepts, read-gives, Writable, write-accepts, write-gives, read-then-write, read-normal, write-then-read}
 use Rattle.round_trip.specs.RoundTrip.{FileComesBack, TableComesBack, Given, Checked}
 
 -- ---- a file
@@ -30,7 +33,15 @@ module _ {file contents bodies contents′ bodies′ : List ℕ} {a : Answer} (r
   read-is = sym (read .says)
 
   pub file-refused : (a .number ≡ 0 → ⊥) → {copy : List ℕ} → FileComesBack file contents bodies copy contents′ bodies′ copy (record { first = a; second = a })
-  file-refused gone = record { reads = read; writes = λ on. absurd (gone on); refused = λ other. (refl, refl); back = λ on room. absurd (gone on) }
+  file-refused gone =
+      record {
+        reads = read;
+        writes = λ on. absurd (gone on);
+        refused = λ other. (refl, refl);
+        back = λ on room d f. absurd (gone on);
+        same = λ on room d f. absurd (gone on);
+        again = λ on d f. absurd (gone on);
+      }
 
   pub file-back : Below 256 file → a .number ≡ 0 → {copy copy′ : List ℕ} {w : Answer} → Writes (take (4 * a .rows) contents′) (take (a .words) bodies′) copy w copy′
       → FileComesBack file contents bodies copy contents′ bodies′ copy′ (record { first = a; second = w })
@@ -39,14 +50,41 @@ module _ {file contents bodies contents′ bodies′ : List ℕ} {a : Answer} (r
         reads = read;
         writes = λ zero-is. writes;
         refused = λ gone. absurd (gone on);
-        back = λ zero-is room. (ap (λ o. o .answer) (both room), ap (λ o. o .buffer) (both room));
+        back = λ zero-is room d f. (ap (λ o. o .answer) (both room d f), ap (λ o. o .buffer) (both room d f));
+        same = λ zero-is room d f. (
+          λ normal. ap (λ (o : Output). o .buffer) (both room d f) ∙ ap (λ l. overwrite l copy) (normal-is file d .0 normal),
+          λ is. normal-is file d .1 (only d f (sym (ap (λ (o : Output). o .buffer) (both room d f)) ∙ is)),
+        );
+        again = λ zero-is d f. reads (bytes d f) (read .says ∙ sym (again d f));
       }
     where
-      both : length file ≤ length copy → _≡_ {A = Output} (record { answer = w; buffer = copy′ }) (record { answer = a; buffer = overwrite file copy })
-      both room =
-          writes .says
-          ∙ subst (λ (r : ReadResult). writeOutput (take (4 * r .answer .rows) (r .contents)) (take (r .answer .words) (r .bodies)) copy ≡ record { answer = r .answer; buffer = overwrite file copy }) read-is
-          (read-then-write file contents bodies copy below (ap (λ (r : ReadResult). r .answer .number) read-is ∙ on) room)
+      -- The drawing that was accepted is this one.
+      accepted : (d : Drawing) → IsFile file d → (a : Accepted file contents bodies) × (a .drawing ≡ d)
+      accepted d f =
+          let ok = read-accepts file contents bodies below .0 (ap (λ (r : ReadResult). r .answer .number) read-is ∙ on) in
+          (ok, file-unique file (ok .drawing) d (ok .is-file) f)
+
+      both : length file ≤ length copy → (d : Drawing) → IsFile file d → _≡_ {A = Output} (record { answer = w; buffer = copy′ }) (record { answer = a; buffer = overwrite (normalForm d file) copy })
+      both room d f =
+          let ok = accepted d f in
+          subst (λ d. _≡_ {A = Output} (record { answer = w; buffer = copy′ }) (record { answer = a; buffer = overwrite (normalForm d file) copy })) (ok .1)
+          (writes .says
+          ∙ subst (λ (r : ReadResult). writeOutput (take (4 * r .answer .rows) (r .contents)) (take (r .answer .words) (r .bodies)) copy ≡ record { answer = r .answer; buffer = overwrite (normalForm (ok .0 .drawing) file) copy }) read-is
+          (read-then-write file contents bodies copy below (ok .0) room))
+
+      -- What stands at the beginning of both is the same.
+      only : (d : Drawing) → IsFile file d → overwrite (normalForm d file) copy ≡ overwrite file copy → normalForm d file ≡ file
+      only d f e =
+          let long : length (normalForm d file) ≡ length file = ap length (normal-form-is file d (f .spelled)) ∙ sym (file-length f) in
+          sym (take-overwrite (normalForm d file) copy (length file) long) ∙ ap (take (length file)) e ∙ take-overwrite file copy (length file) refl
+
+      again : (d : Drawing) → IsFile file d → readResult (normalForm d file) contents bodies ≡ readResult file contents bodies
+      again d f =
+          let ok = accepted d f in
+          subst (λ d. readResult (normalForm d file) contents bodies ≡ readResult file contents bodies) (ok .1) (read-normal file contents bodies below (ok .0))
+
+      bytes : (d : Drawing) → IsFile file d → Below 256 (normalForm d file)
+      bytes d f = subst (Below 256) (sym (normal-form-is file d (f .spelled))) (below-spelled byteFields bytes-sensible (fields (fileLayout .format) d))
 
 -- ---- a table
 
@@ -124,7 +162,7 @@ table-checked {contents} {bodies} {a} below checks = record { checks = checks; e
           rows = rowsOf d;
           rows-are = sym rows;
           gives = λ c b same-rows same-words.
-              let accepted : Accepted (fileOf d) c b = record { drawing = d; acceptable = table .acceptable; file-is = refl; rows-fit = omega (arith, rows, same-rows); words-fit = omega (arith, words, same-words) } in
+              let accepted : Accepted (fileOf d) c b = record { drawing = d; is-file = own-file d (table .acceptable); rows-fit = omega (arith, rows, same-rows); words-fit = omega (arith, words, same-words) } in
               let left-contents = overwrite-all (contentsOf d) c (same-rows ∙ ap length (table .contents-are)) ∙ sym (table .contents-are) in
               let left-bodies = overwrite-all (bodiesOf d) b (same-words ∙ ap length (table .bodies-are)) ∙ sym (table .bodies-are) in
               reads bytes
@@ -145,5 +183,5 @@ table-checked {contents} {bodies} {a} below checks = record { checks = checks; e
         let long : length contents ≡ length (contentsOf d) = sym (given .rows-are) ∙ ap (λ n. 4 * n) (sym rows) ∙ sym (contents-length (outer d) (d .version) 0 0 (length (headWords d))) in
         let contents-are : contents ≡ contentsOf d = sym (ap (λ (r : ReadResult). r .contents) result) ∙ overwrite-all (contentsOf d) contents long in
         let bodies-are : bodies ≡ bodiesOf d = sym (ap (λ (r : ReadResult). r .bodies) result) ∙ overwrite-all (bodiesOf d) bodies (sym words) in
-        let is = drawing-of-table contents bodies below d .1 (record { acceptable = accepted .acceptable; contents-are = contents-are; bodies-are = bodies-are }) in
+        let is = drawing-of-table contents bodies below d .1 (record { acceptable = accepted .is-file .acceptable; contents-are = contents-are; bodies-are = bodies-are }) in
         ap (λ (x : Answer). x .number) (checks .says ∙ ap checkFrom is)

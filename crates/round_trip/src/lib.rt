@@ -1,5 +1,6 @@
-// Demand 2 of the calls themselves: what is read comes back when it is written, what is written comes back when it is read, and a table is checked
-// with 0 exactly when some file gives it. And the text to show of a row, found by two calls. `sheets` has the same of sheets.
+// Demand 2 of the calls themselves: what is read comes back when it is written, with each true flag made 1, what is written comes back when it is read, and a
+// table is checked with 0 exactly when some file gives it. And the text to show of a row, found by two calls. `sheets` has round trips of
+// sheets.
 use drawing::Answer;
 ghost use mathlib.Core.Path.{_≡_};
 ghost use Prim.Native.Nat.{_+_, _≤_};

@@ -55,7 +55,7 @@ no-count-here ws start ended = record { yes = λ t. absurd (false≢true t); no 
 count-parse : (ws : List ℕ) (at : ℕ) → Counted ws at → parse Reading.words (field memberCount) (drop at ws) ≡ found (getD ws at 0) (drop (at + 1) ws)
 count-parse ws at counted =
     parse-field Reading.words memberCount (drop at ws)
-    ∙ read-value (2 ^ 32) (λ s. (size s + 3) / 4) 16 16 ws at memberCount (getD ws at 0) (omega (arith, counted .inside)) (sym (field-one (2 ^ 32) ws at (omega (arith, counted .inside)))) (counted .allowed)
+    ∙ read-value (2 ^ 32) (λ s. (size s + 3) / 4) (λ s x. x) 16 16 ws at memberCount (getD ws at 0) (omega (arith, counted .inside)) (sym (field-one (2 ^ 32) ws at (omega (arith, counted .inside)))) (counted .allowed)
 
 -- ---- the body
 

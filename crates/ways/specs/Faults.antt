@@ -8,11 +8,12 @@ use lib.Dec.{ltb}
 use borrow.Author.Tests.{lt-ltb, le-ltb, ltb-true, ltb-false}
 use mir.Syntax.{Width, w8, w32}
 use mir.Val.{toZ, hbits}
-use Rattle.format.specs.Kind.{Kind, Shape, Allowed, size, values, flag, byte, char, integer, float, double, stringLength, stringChar, chars}
+use Rattle.format.specs.Kind.{Kind, Shape, Allowed, isFlag, size, values, flag, byte, char, integer, float, double, stringLength, stringChar, chars}
 use Rattle.format.specs.LiteralLaws.{faultOf}
 use Rattle.drawing.specs.Fields as F
 use Rattle.drawing.specs.Fields.{unless, inRange}
 use Rattle.drawing.specs.FieldLaws.{in-range, in-signed}
+use Rattle.drawing.specs.FlagLaws.{full-plain}
 use Rattle.ways.specs.Way.{Way, Exact, Blind, sourceUnits}
 
 -- This number tells what is wrong with a value in a field of this kind, 0 for nothing: refused with it, a pass comes to what its script comes to.
@@ -88,9 +89,10 @@ pub record Between (low high fault v n : ℕ) : Type 0 where
   pub inside : n ≡ 0 → (low ≤ v) × (v ≤ high)
   pub outside : 0 < n → (n ≡ fault) × ((v < low) ⊎ (high < v))
 
--- A field of so many bytes, allowed from the one number to the other; outside, in a file, it has this fault.
+-- A field of so many bytes, no flag, allowed from the one number to the other; outside, in a file, it has this fault.
 pub record Ranged (k : Kind) (bytes low high fault : ℕ) : Type 0 where
   pub sized : size (k .shape) ≡ bytes
+  pub plain : isFlag (k .shape) ≡ false
   pub within : (v : ℕ) → low ≤ v → v ≤ high → Allowed k v
   pub outside : (v : ℕ) → v < 256 ^ bytes → (v < low) ⊎ (high < v) → faultOf 5 k v ≡ fault
 
@@ -123,6 +125,7 @@ signed-ranged : (s : Shape) (w : Width) (bytes low high : ℕ) → size s ≡ by
 signed-ranged s w bytes low high sized all small holds =
     record {
       sized = sized;
+      plain = full-plain s bytes sized all;
       within = λ v least most. record { fits = omega (arith, all); faultless = rw (in-signed w low high v small least most) };
       outside = λ v fits out. ap (λ t. cond t (unless (inRange low high (toZ w v)) 6) 5) (lt-ltb v (values s) (rw all fits)) ∙ ap (λ t. unless t 6) (out-signed w low high v out);
     }
@@ -133,24 +136,12 @@ byte-ranged low high small = signed-ranged byte w8 1 low high refl refl small (o
 pub integer-ranged : (high : ℕ) → high < 2147483648 → Ranged (F.integerIn 0 high) 4 0 high 6
 integer-ranged high small = signed-ranged integer w32 4 0 high refl refl small (omega arith)
 
--- A flag that is neither 0 nor 1 is no value of a flag.
-pub flag-ranged : Ranged F.flag 1 0 1 5
-flag-ranged =
-    record {
-      sized = refl;
-      within = λ v least most. record { fits = omega arith; faultless = refl };
-      outside = λ v fits out. rw (le-ltb v 2 (over v out));
-    }
-  where
-    over : (v : ℕ) → (v < 0) ⊎ (1 < v) → 2 ≤ v
-    over v (inl h) = absurd (omega arith)
-    over v (inr h) = omega arith
-
 -- A shape's own values are a range.
 pub any-ranged : (s : Shape) (bytes high fault : ℕ) → size s ≡ bytes → values s ≡ suc high → 256 ^ bytes ≡ suc high → Ranged (F.any s) bytes 0 high fault
 any-ranged s bytes high fault sized all bytes-hold =
     record {
       sized = sized;
+      plain = full-plain s bytes sized (all ∙ sym bytes-hold);
       within = λ v least most. record { fits = omega (arith, all); faultless = refl };
       outside = λ v small out. absurd (none v small out);
     }

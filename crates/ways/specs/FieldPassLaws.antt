@@ -1,7 +1,7 @@
 -- One field, as a function passes it: asked whether it is there, taken, judged, and kept or refused; or cut. And what the kinds of field are judged by.
-use mathlib.Core.Path.{_≡_, refl, sym, ap, _∙_}
+use mathlib.Core.Path.{_≡_, refl, sym, ap, _∙_, subst, fun-ext}
 use mathlib.Core.Logic.{_⊎_, inl, inr}
-use mathlib.Core.Bool.{Bool, true, false, cond, _&&_, _||_}
+use mathlib.Core.Bool.{Bool, true, false, cond, not, _&&_, _||_}
 use Prim.Native.Nat.{ℕ, zero, suc, _+_, _-_, _^_, _<_, _≤_}
 use native.Mathlib.Omega.{arith}
 use mathlib.Core.List.{List, [], _∷_}
@@ -12,7 +12,8 @@ use lib.Signed.{leZ}
 use mir.Syntax.{w32}
 use mir.Val.{toZ, sel, bits, hbits}
 use borrow.Author.Tests.{lt-ltb, le-leb, lt-leb, eq-eqb, ne-eqb, leb-true, ltb-true, ltb-false}
-use Rattle.format.specs.Kind.{Kind, Shape, values}
+use Rattle.format.specs.Kind.{Kind, Shape, isFlag, values}
+use Rattle.format.specs.Digits.{Below}
 use Rattle.format.specs.Kind as Kinds
 use Rattle.format.specs.Script.{Script, ask}
 use Rattle.format.specs.Format.{Format, script}
@@ -20,6 +21,7 @@ use Rattle.format.specs.Alternative.{Alternative, among, chosen}
 use Rattle.drawing.specs.Fields as F
 use Rattle.drawing.specs.Fields.{unless, charWhere, oneOfChars}
 use Rattle.drawing.specs.FieldLaws.{and-both}
+use Rattle.drawing.specs.FlagLaws.{full-plain}
 use Rattle.drawing.specs.Choices.{byChar}
 use Rattle.ways.specs.declared.Pass.{Pass}
 use Rattle.ways.specs.declared.FieldPass.{FieldPass}
@@ -28,7 +30,7 @@ use Rattle.ways.specs.Passes.{refused, behind, Ready, behind-gone}
 use Rattle.ways.specs.Carries.{Laid, Asked}
 use Rattle.ways.specs.Faults.{Judges, Between, Ranged, judged, values-hold}
 use Rattle.ways.specs.Steps.{Fits, Small, Refused, Keeps}
-use Rattle.ways.specs.StepLaws.{There, there-with, there-small, field-asked, not-there}
+use Rattle.ways.specs.StepLaws.{There, there-below, there-with, there-small, field-asked, not-there}
 
 -- A refusal, here or before, is one.
 pub is-refused : {W : Way} {n at to : ℕ} {q : Pass} → Refused W n at to q → refused ≤ q .at
@@ -64,17 +66,39 @@ cut-by-char one more ready fits failed is =
 pub record Seen (W : Way) (k : Kind) (us : List ℕ) (at to v n : ℕ) : Type 0 where
   pub sized : (0 < Kinds.size (k .shape)) × (Kinds.size (k .shape) ≤ 8)
   pub ready : Ready (length us) at to
-  pub there : There W us at (Kinds.size (k .shape)) v
+  pub number : ℕ
+  pub there : There W us at (Kinds.size (k .shape)) number
+  pub means : W .source .meant (k .shape) number ≡ v
   pub judges : Judges W k v n
 
-pub seen : {W : Way} (k : Kind) {us : List ℕ} {at to bytes words v n : ℕ} {r : Bool} → (leb 1 (Kinds.size (k .shape)) && leb (Kinds.size (k .shape)) 8) ≡ true → W .source .pick bytes words ≡ sourceUnits W (Kinds.size (k .shape)) → Ready (length us) at to → Fits W bytes words us at r → r ≡ true
+pub seen : {W : Way} (k : Kind) {us : List ℕ} {at to bytes words v n : ℕ} {r : Bool} → (not (isFlag (k .shape)) && (leb 1 (Kinds.size (k .shape)) && leb (Kinds.size (k .shape)) 8)) ≡ true → W .source .pick bytes words ≡ sourceUnits W (Kinds.size (k .shape)) → Ready (length us) at to → Fits W bytes words us at r → r ≡ true
     → (v ≡ valueAt W (Kinds.size (k .shape)) us at) × (v < W .source .base ^ sourceUnits W (Kinds.size (k .shape))) → Judges W k v n → Seen W k us at to v n
-seen k sized units ready fits taken got judges =
-    let sizes = and-both (leb 1 (Kinds.size (k .shape))) (leb (Kinds.size (k .shape)) 8) sized in
+seen {W} k {v = v} sized units ready fits taken got judges =
+    let tests = and-both (not (isFlag (k .shape))) (leb 1 (Kinds.size (k .shape)) && leb (Kinds.size (k .shape)) 8) sized in
+    let sizes = and-both (leb 1 (Kinds.size (k .shape))) (leb (Kinds.size (k .shape)) 8) (tests .1) in
     record {
       sized = (leb-true 1 (Kinds.size (k .shape)) (sizes .0), leb-true (Kinds.size (k .shape)) 8 (sizes .1));
       ready = ready;
+      number = v;
       there = there-with (Kinds.size (k .shape)) units fits taken got;
+      means = W .source .plain (k .shape) v (no-flag (isFlag (k .shape)) (tests .0));
+      judges = judges;
+    }
+  where
+    no-flag : (b : Bool) → not b ≡ true → b ≡ false
+    no-flag true e = sym e
+    no-flag false e = refl
+
+-- A flag that is there, by what its number stands for.
+pub seen-flag : {W : Way} (fault : ℕ → ℕ) {us : List ℕ} {at to bytes words v n : ℕ} {r : Bool} → Below (W .source .base) us → W .source .pick bytes words ≡ sourceUnits W 1 → Ready (length us) at to → Fits W bytes words us at r → r ≡ true
+    → v ≡ W .source .meant Kinds.flag (valueAt W 1 us at) → Judges W (record { shape = Kinds.flag; fault = fault }) v n → Seen W (record { shape = Kinds.flag; fault = fault }) us at to v n
+seen-flag {W} fault {us} {at} below units ready fits taken is judges =
+    record {
+      sized = (omega arith, omega arith);
+      ready = ready;
+      number = valueAt W 1 us at;
+      there = there-below W us at 1 below (rw (← units) (fits .yes taken));
+      means = sym is;
       judges = judges;
     }
 
@@ -86,7 +110,7 @@ module _ {W : Way} {k : Kind} {us : List ℕ} {at to v n : ℕ} (seen : Seen W k
       (asked, seen .sized .1, there-small (Kinds.size (k .shape)) (seen .ready) (seen .there) (seen .sized .0) (seen .sized .1), λ e. let fits = seen .judges .fine e .fits in omega arith)
 
   pub seen-asked : {m m′ : List ℕ} {r : FieldPass} → Keeps W (Kinds.size (k .shape)) v n m m′ at to r → Asked k W us m m′ at to r
-  seen-asked keeps = field-asked (seen .ready) k refl (seen .there) (seen .sized .0) (seen .sized .1) (seen .judges) keeps
+  seen-asked keeps = field-asked (seen .ready) k refl (seen .there) (seen .means) (seen .sized .0) (seen .sized .1) (seen .judges) keeps
 
 -- ---- what fields are judged by
 
@@ -118,6 +142,7 @@ pub reach-ranged : (s : Shape) (least fault : ℕ) → Kinds.size s ≡ 4 → va
 reach-ranged s least fault sized all =
     record {
       sized = sized;
+      plain = full-plain s 4 sized all;
       within = λ v low high. record { fits = omega (arith, all); faultless = ap (λ b. unless b fault) (reaches least v low high) };
       outside = λ v small out.
           ap (λ t. cond t (unless (leZ (pos least) (toZ w32 v)) fault) 5) (lt-ltb v (values s) (rw all small)) ∙ ap (λ t. unless t fault) (falls-short least v out);
@@ -128,6 +153,7 @@ pub joined-ranged : (bits : ℕ) → bits < 256 ^ 8 → Ranged (F.joined bits) 8
 joined-ranged bits fits =
     record {
       sized = refl;
+      plain = refl;
       within = λ v low high. let same : v ≡ bits = omega arith in record { fits = omega arith; faultless = ap (λ b. unless b 12) (eq-eqb v bits same) };
       outside = λ v small out.
           ap (λ t. cond t (unless (eqb v bits) 12) 5) (lt-ltb v (values Kinds.double) small) ∙ ap (λ t. unless t 12) (ne-eqb v bits (other v out));
@@ -136,6 +162,19 @@ joined-ranged bits fits =
     other : (v : ℕ) → (v < bits) ⊎ (bits < v) → v ≡ bits → ⊥
     other v (inl h) e = omega arith
     other v (inr h) e = omega arith
+
+-- A flag that has this fault where it is true, 0 for none.
+abbrev pub flagKind : ℕ → Kind
+flagKind fault = record { shape = Kinds.flag; fault = λ v. unless (eqb v 0) fault }
+
+-- Any flag is one that has none.
+pub any-flag : {W : Way} {us m m′ : List ℕ} {at to : ℕ} {r : FieldPass} → Asked (flagKind 0) W us m m′ at to r → Asked F.flag W us m m′ at to r
+any-flag {W} {us} {m} {m′} {at} {to} {r} asked =
+    subst (λ f. Asked (record { shape = Kinds.flag; fault = f }) W us m m′ at to r) (fun-ext (λ v. none (eqb v 0))) asked
+  where
+    none : (t : Bool) → unless t 0 ≡ 0
+    none true = refl
+    none false = refl
 
 -- A component of a paint, or a hue.
 abbrev pub shadeKind : Bool → Kind

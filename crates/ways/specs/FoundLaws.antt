@@ -11,8 +11,8 @@ use Rattle.format.specs.LeafLaws.{below-drop}
 use Rattle.format.specs.Codec.{Outcome, found}
 use Rattle.format.specs.Codec as C
 use Rattle.format.specs.FixedCodec.{spellFixed}
-use Rattle.format.specs.FixedCodecLaws.{Sensible, Literal, literal-literal}
-use Rattle.format.specs.FixedLayoutLaws.{parsed-good}
+use Rattle.format.specs.FixedCodecLaws.{Sensible}
+use Rattle.format.specs.FixedLayoutLaws.{parsed-spelt, spelt-length}
 use Rattle.format.specs.Layout.{Layout, field, encode}
 use Rattle.format.specs.Parse.{parse}
 use Rattle.format.specs.ParsingLaws.{parse-field}
@@ -41,25 +41,24 @@ pub record Unfound {A : Type 0} (L : Layout A) (W : Way) (us : List ℕ) (at at�
   pub at-is : at′ ≡ W .place (length us - length place) + refused
   pub to-is : to′ ≡ W .number n
 
-literal : (W : Way) → Literal (codec (W .source))
-literal W = literal-literal (W .source .base) (codec (W .source) .width) (W .source .missing) (W .source .meaningless)
-
 module _ (W : Way) (sensible : Sensible (codec (W .source))) (us : List ℕ) (below : Below (W .source .base) us) where
   module _ {A : Type 0} (L : Layout A) {m m′ : List ℕ} {at to at′ to′ : ℕ} (inside : at ≤ length us) (laid : Laid (L .format) W us m m′ at to at′ to′) where
     found-here : (a : A) (rest : List ℕ) → parse (reading W) L (drop at us) ≡ found a rest → Landed L W us m m′ to at′ to′ a rest → Found L W us m m′ at to at′ to′ a
     found-here a rest e landed =
         let front = encode (spellFixed (codec (W .source))) L a in
-        let g = parsed-good (codec (W .source)) sensible (literal W) L (drop at us) (below-drop (W .source .base) at us below) a rest e in
-        let long : length us - at ≡ length front + length rest = sym (length-drop at us) ∙ ap length (g .1) ∙ length-append front rest in
+        let g = parsed-spelt (codec (W .source)) sensible L (drop at us) (below-drop (W .source .base) at us below) a rest e in
+        let long : length us - at ≡ length front + length rest = sym (length-drop at us) ∙ spelt-length g in
+        let sum : length us - at ≡ length (g .front) + length rest = sym (length-drop at us) ∙ ap length (g .split) ∙ length-append (g .front) rest in
         let at-is : at′ ≡ at + length front = omega (arith, landed .at-is) in
+        let place : at + length (g .front) ≡ at′ = omega (arith, landed .at-is) in
         let rest-is : rest ≡ drop at′ us =
-        sym (drop-at front rest (length front) refl)
-        ∙ ap (drop (length front)) (sym (g .1))
-        ∙ drop-drop (length front) at us
-        ∙ ap (λ n. drop n us) (sym at-is) in
+        sym (drop-at (g .front) rest (length (g .front)) refl)
+        ∙ ap (drop (length (g .front))) (sym (g .split))
+        ∙ drop-drop (length (g .front)) at us
+        ∙ ap (λ n. drop n us) place in
         record {
           parsed = e ∙ ap (λ us. found a us) rest-is;
-          good = g .0;
+          good = g .good;
           at-is = at-is;
           inside = omega (arith, landed .at-is);
           to-is = landed .to-is;

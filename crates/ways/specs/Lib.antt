@@ -1,5 +1,6 @@
 -- Passes over fields, for any way: what a way is, the contracts, and their laws.
 pub mod Way
+pub mod CodecUnits
 pub mod Passes
 pub mod Carries
 pub mod LayoutLaws

@@ -90,7 +90,7 @@ module _ (W : Way) (us : List ℕ) (k : Kind) (size : ℕ) (sized : Kinds.size (
       let first : Allowed k v = rw here at (all .each 0 (omega arith)) in
       let there : at + w ≤ length us = omega arith in
       ap (λ o. onward (route W) at o (λ v. pass (route W) us (repeat n (field k) ⟫ K) (at + sourceUnits W (Kinds.size (k .shape))) (to + targetUnits W (Kinds.size (k .shape))) (put to (digits (W .target .base) (targetUnits W (Kinds.size (k .shape))) v) m)))
-      (read-value (W .source .base) (λ s. sourceUnits W (Kinds.size s)) (W .source .missing) (W .source .meaningless) us at k v (rw sized there) (rw sized) first)
+      (read-value (W .source .base) (λ s. sourceUnits W (Kinds.size s)) (W .source .meant) (W .source .missing) (W .source .meaningless) us at k v (rw sized there) (sym (rw sized (W .source .own (k .shape) v (first .fits)))) first)
       ∙ ap (λ s. pass (route W) us (repeat n (field k) ⟫ K) (at + sourceUnits W s) (to + targetUnits W s) (put to (digits (W .target .base) (targetUnits W s) v) m)) sized
       ∙ through n (at + w) (to + u) (put to (digits (W .target .base) u v) m) (omega arith) (record { each = λ i less. rw shift at (all .each (suc i) (omega arith)) })
       ∙ ap₂ (λ a b. pass (route W) us K a b (copied W size n us (at + w) (to + u) (put to (digits (W .target .base) u v) m))) (omega arith) (omega arith)
@@ -118,7 +118,7 @@ module _ {W : Way} (k : Kind) {size : ℕ} {us m m′ : List ℕ} {at to : ℕ} 
   -- One field, whose value is known.
   pub moved-valued : There W us at size (valueAt W size us at) → Allowed k (valueAt W size us at) → Moved W size 1 us m m′ at to r → Valued (one k) (valueAt W size us at) W us m m′ at to (r .at) (r .to)
   unfolding putMany
-  moved-valued there allowed moved = rw (moved .is) (good-asked ready k sized there least most allowed (moved .memory-is))
+  moved-valued there allowed moved = rw (moved .is) (good-asked ready k sized there (W .source .own (k .shape) (valueAt W size us at) (allowed .fits)) least most allowed (moved .memory-is))
 
 -- Memory that has no place stays as it is.
 pub nowhere : (m m′ : List ℕ) → length m ≡ 0 → length m′ ≡ length m → m ≡ m′

@@ -16,6 +16,7 @@ use Rattle.format.specs.Layout.{Layout, field, repeat, _&_}
 use Rattle.format.specs.Alternative.{among, chosen}
 use Rattle.format.specs.Pass.{_⟫_}
 use Rattle.drawing.specs.Fields as F
+use Rattle.drawing.specs.FlagLaws.{long-plain}
 use Rattle.drawing.specs.Fields.{charWhere}
 use Rattle.drawing.specs.FieldLaws.{and-both}
 use Rattle.drawing.specs.Paint.{Plain, transparentCase, plainCases, rgbComponents, cmykComponents, greyComponents, hsbComponents, plainPaint, asPaint, paintCases, paint}
@@ -63,7 +64,7 @@ plain-refused {W} version {us} {m} {at} {to} {r} below ready inside bad is =
     rw is
     (record {
       runs = λ k sized all same next K parts.
-          bad-asked ready k sized there (omega arith)
+          bad-asked ready k sized there (W .source .plain (k .shape) (valueAt W 2 us at) (long-plain (k .shape) 2 sized (omega arith))) (omega arith)
           (judged k (valueAt W 2 us at) W (rw sized (there .small))
           (λ fits. let small : valueAt W 2 us at < 256 ^ 2 = rw sized at fits in sym (ap (λ b. cond b (k .fault (valueAt W 2 us at)) 5) (lt-ltb (valueAt W 2 us at) (values (k .shape)) (rw all small)) ∙ same ∙ bad)) (λ over. omega arith))
           (record { before = λ gone. absurd (omega arith); now = λ h. refl }) .runs next

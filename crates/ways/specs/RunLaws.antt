@@ -21,6 +21,7 @@ use Rattle.format.specs.Format.{scriptMany}
 use Rattle.format.specs.Pass.{Passed, stopped, pass}
 use Rattle.format.specs.RunLaws.{valuesAt, length-many, Plain, run-through, run-cut, run-short, run-bad}
 use Rattle.drawing.specs.Fields as F
+use Rattle.drawing.specs.FlagLaws.{full-plain}
 use Rattle.ways.specs.declared.Pass.{Pass}
 use Rattle.ways.specs.Way.{Way, Exact, Blind, codec, route, sourceUnits, targetUnits, valueAt}
 use Rattle.ways.specs.Passes.{refused, behind, Ready, refusalOf, stepped, behind-going, behind-gone, behind-refusal, refusal-ready, still-going, stepped-ready}
@@ -35,7 +36,8 @@ any-plain W us bytes k a =
       far = ap (targetUnits W) (a .sized);
       reads = λ at inside small.
           rw (← (a .sized))
-          (read-value (W .source .base) (λ s. sourceUnits W (Kinds.size s)) (W .source .missing) (W .source .meaningless) us at k (valueAt W (Kinds.size (k .shape)) us at) (rw (a .sized) inside) refl
+          (read-value (W .source .base) (λ s. sourceUnits W (Kinds.size s)) (W .source .meant) (W .source .missing) (W .source .meaningless) us at k (valueAt W (Kinds.size (k .shape)) us at) (rw (a .sized) inside)
+          (sym (W .source .plain (k .shape) (valueAt W (Kinds.size (k .shape)) us at) (full-plain (k .shape) bytes (a .sized) (a .all))))
           (record { fits = rw (a .all, a .sized) small; faultless = a .faultless _ }));
     }
 
@@ -119,13 +121,14 @@ module _ (W : Way) {size : ℕ} (count : ℕ) {us m : List ℕ} {at to : ℕ} (r
       (λ s.
       let large : values (kind s .shape) ≤ valueAt W size us (at + i * w) = rw (any s .all) (bad .2) in
       let there : at + i * w + sourceUnits W (Kinds.size (kind s .shape)) ≤ length us = rw (any s .sized) (omega arith) in
-      wide-read (kind s) (at + i * w) (valueAt W size us (at + i * w)) there (ap (λ n. valueAt W n us (at + i * w)) (sym (any s .sized))) large (W .source .meaningless) refl)))
+      wide-read (kind s) (at + i * w) (valueAt W size us (at + i * w)) there
+      (ap (λ n. valueAt W n us (at + i * w)) (sym (any s .sized)) ∙ sym (W .source .plain (kind s .shape) (valueAt W (Kinds.size (kind s .shape)) us (at + i * w)) (full-plain (kind s .shape) size (any s .sized) (any s .all)))) large (W .source .meaningless) refl)))
     where
-      wide-read : (k : Kind) (place v : ℕ) → place + sourceUnits W (Kinds.size (k .shape)) ≤ length us → v ≡ valueAt W (Kinds.size (k .shape)) us place → values (k .shape) ≤ v → (x : ℕ) → W .source .meaningless ≡ x
+      wide-read : (k : Kind) (place v : ℕ) → place + sourceUnits W (Kinds.size (k .shape)) ≤ length us → v ≡ W .source .meant (k .shape) (valueAt W (Kinds.size (k .shape)) us place) → values (k .shape) ≤ v → (x : ℕ) → W .source .meaningless ≡ x
           → (n : ℕ) × (fixed (codec (W .source)) .read k (drop place us) ≡ C.refused n (drop place us))
       wide-read k place v inside is large zero e = let some = W .some in absurd (omega arith)
       wide-read k place v inside is large (suc x) e =
-          (suc x, read-fault (W .source .base) (λ s. sourceUnits W (Kinds.size s)) (W .source .missing) (W .source .meaningless) us place k v inside is x (rw (le-ltb v (values (k .shape)) large) e))
+          (suc x, read-fault (W .source .base) (λ s. sourceUnits W (Kinds.size s)) (W .source .meant) (W .source .missing) (W .source .meaningless) us place k v inside is x (rw (le-ltb v (values (k .shape)) large) e))
 
   -- There are fewer units than the run takes: it is refused at the first field that is not whole.
   pub run-missing : Below (W .source .base) us → length us < at + count * sourceUnits W size → {r : Pass} → CutRun W size us at to r → Runs W size count us m m at to r
@@ -142,7 +145,7 @@ module _ (W : Way) {size : ℕ} (count : ℕ) {us m : List ℕ} {at to : ℕ} (r
             runs = λ kind next any s K.
                 behind-going W us m at to (scriptMany (λ t k. ask (kind t) k) next count s K) going
                 ∙ run-cut (route W) us w (targetUnits W size) (256 ^ size) kind next (λ s. any-plain W us size (kind s) (any s)) (W .source .missing)
-                (λ s place h. read-cut (W .source .base) (λ s. sourceUnits W (Kinds.size s)) (W .source .missing) (W .source .meaningless) us place (kind s) (rw (any s .sized) h)) count s K at to m (W .source .least size least) inside (omega arith)
+                (λ s place h. read-cut (W .source .base) (λ s. sourceUnits W (Kinds.size s)) (W .source .meant) (W .source .missing) (W .source .meaningless) us place (kind s) (rw (any s .sized) h)) count s K at to m (W .source .least size least) inside (omega arith)
                 (exact-small W exact size us at ((length us - at) / w) below fit)
                 ∙ ap (λ n. stopped n (W .place (at + (length us - at) / w * w))) (cut-number W)
                 ∙ sym (behind-refusal W us m 2 (at + (length us - at) / w * w) (K (valuesAt (W .source .base) w us count at)));

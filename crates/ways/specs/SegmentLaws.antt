@@ -251,8 +251,9 @@ module _ (W : Way) (us : List ℕ) (below : Below (W .source .base) us) (holds :
   read-joined at x inside is =
       let small = field-below (W .source .base) us at (sourceUnits W 8) inside below in
       let fits : x < 256 ^ 8 = omega arith in
-      read-value (W .source .base) (λ s. sourceUnits W (Kinds.size s)) (W .source .missing) (W .source .meaningless) us at (F.joined x) x inside (sym is) (record { fits = fits; faultless = rw (eq-eqb x x refl) })
-      ∙ sym (read-value (W .source .base) (λ s. sourceUnits W (Kinds.size s)) (W .source .missing) (W .source .meaningless) us at F.double x inside (sym is) (record { fits = fits; faultless = refl }))
+      let meant : x ≡ W .source .meant Kinds.double (valueAt W 8 us at) = sym (W .source .plain Kinds.double (valueAt W 8 us at) refl ∙ is) in
+      read-value (W .source .base) (λ s. sourceUnits W (Kinds.size s)) (W .source .meant) (W .source .missing) (W .source .meaningless) us at (F.joined x) x inside meant (record { fits = fits; faultless = rw (eq-eqb x x refl) })
+      ∙ sym (read-value (W .source .base) (λ s. sourceUnits W (Kinds.size s)) (W .source .meant) (W .source .missing) (W .source .meaningless) us at F.double x inside meant (record { fits = fits; faultless = refl }))
 
   joined-point : (at to : ℕ) (m : List ℕ) (p : Point) (K : Script (Unit {0})) → Stands W us at p → pass (route W) us (joinedPoint (some p) ⟫ K) at to m ≡ pass (route W) us (point ⟫ K) at to m
   joined-point at to m p K stands =

@@ -36,7 +36,7 @@ cut-number W = by (W .tells)
     by (inl exact) = ap (W .number) (exact .cut)
     by (inr blind) = blind .one-number (W .source .missing) 2
 
--- The field is there.
+-- The field is there, with this number.
 pub record There (W : Way) (us : List ℕ) (at size value : ℕ) : Type 0 where
   pub inside : at + sourceUnits W size ≤ length us
   pub value-is : value ≡ valueAt W size us at
@@ -45,6 +45,10 @@ pub record There (W : Way) (us : List ℕ) (at size value : ℕ) : Type 0 where
 pub there-below : (W : Way) (us : List ℕ) (at size : ℕ) → Below (W .source .base) us → at + sourceUnits W size ≤ length us → There W us at size (valueAt W size us at)
 there-below W us at size below inside =
     record { inside = inside; value-is = refl; small = field-below (W .source .base) us at (sourceUnits W size) inside below }
+
+-- What its number stands for.
+value-meant : (W : Way) (us : List ℕ) (at : ℕ) (k : Kind) (size x v : ℕ) → K.size (k .shape) ≡ size → There W us at size x → W .source .meant (k .shape) x ≡ v → v ≡ W .source .meant (k .shape) (valueAt W (K.size (k .shape)) us at)
+value-meant W us at k size x v sized there means = sym means ∙ ap (W .source .meant (k .shape)) (rw sized (there .value-is))
 
 -- ---- the script
 
@@ -56,11 +60,11 @@ module _ (W : Way) (us m : List ℕ) (at to : ℕ) (going : at < refused) (k : K
   abbrev then-pass : (ℕ → Script (Unit {0})) → ℕ → Passed
   then-pass next v = pass (route W) us (next v) next-at (to + targetUnits W (K.size (k .shape))) (put to (digits (W .target .base) (targetUnits W (K.size (k .shape))) v) m)
 
-  field-goes : (next : ℕ → Script (Unit {0})) (v : ℕ) → at + sourceUnits W (K.size (k .shape)) ≤ length us → v ≡ valueAt W (K.size (k .shape)) us at → Allowed k v
+  field-goes : (next : ℕ → Script (Unit {0})) (v : ℕ) → at + sourceUnits W (K.size (k .shape)) ≤ length us → v ≡ W .source .meant (k .shape) (valueAt W (K.size (k .shape)) us at) → Allowed k v
       → behind W us m at to (ask k next) ≡ then-pass next v
   field-goes next v inside is allowed =
       behind-going W us m at to (ask k next) going
-      ∙ ap (λ o. onward (route W) at o (then-pass next)) (read-value (W .source .base) (λ s. sourceUnits W (K.size s)) (W .source .missing) (W .source .meaningless) us at k v inside is allowed)
+      ∙ ap (λ o. onward (route W) at o (then-pass next)) (read-value (W .source .base) (λ s. sourceUnits W (K.size s)) (W .source .meant) (W .source .missing) (W .source .meaningless) us at k v inside is allowed)
 
   field-stops : (next : ℕ → Script (Unit {0})) (n : ℕ) → fixed (codec (W .source)) .read k (drop at us) ≡ C.refused n (drop at us)
       → behind W us m at to (ask k next) ≡ stopped (W .number n) (W .place at)
@@ -92,10 +96,10 @@ module _ {W : Way} {us m : List ℕ} {at to : ℕ} (ready : Ready (length us) at
       stopped-asked k is (λ next going.
       let inside = ready .inside going in
       let short = fits .no failed in
-      field-stops W us m at to going k next (W .source .missing) (read-cut (W .source .base) (λ s. sourceUnits W (K.size s)) (W .source .missing) (W .source .meaningless) us at k (omega (arith, units)))
+      field-stops W us m at to going k next (W .source .missing) (read-cut (W .source .base) (λ s. sourceUnits W (K.size s)) (W .source .meant) (W .source .missing) (W .source .meaningless) us at k (omega (arith, units)))
       ∙ ap (λ n. stopped n (W .place at)) (cut-number W))
 
-  module _ (k : Kind) {size v : ℕ} (sized : K.size (k .shape) ≡ size) (there : There W us at size v) where
+  module _ (k : Kind) {size x v : ℕ} (sized : K.size (k .shape) ≡ size) (there : There W us at size x) (means : W .source .meant (k .shape) x ≡ v) where
     -- It is kept.
     pub good-asked : 0 < size → size ≤ 8 → Allowed k v → {m′ : List ℕ} → m′ ≡ put to (digits (W .target .base) (targetUnits W size) v) m
         → Valued (one k) v W us m m′ at to (stepped W size 1 at to .at) (stepped W size 1 at to .to)
@@ -107,7 +111,7 @@ module _ {W : Way} {us m : List ℕ} {at to : ℕ} (ready : Ready (length us) at
         let once : (n : ℕ) → n ≡ 1 * n = λ n. omega arith in
         record {
           runs = λ next.
-              field-goes W us m at to going k next v (rw sized (there .inside)) (rw sized (there .value-is)) allowed
+              field-goes W us m at to going k next v (rw sized (there .inside)) (value-meant W us at k size x v sized there means) allowed
               ∙ ap (λ s. pass (route W) us (next v) (at + sourceUnits W s) (to + targetUnits W s) (put to (digits (W .target .base) (targetUnits W s) v) m)) sized
               ∙ ap₂ (λ a b. pass (route W) us (next v) (at + a) (to + b) (put to (digits (W .target .base) (targetUnits W size) v) m)) (once (sourceUnits W size)) (once (targetUnits W size))
               ∙ ap (λ l. pass (route W) us (next v) (at + 1 * sourceUnits W size) (to + 1 * targetUnits W size) l) (sym memory)
@@ -124,7 +128,7 @@ module _ {W : Way} {us m : List ℕ} {at to : ℕ} (ready : Ready (length us) at
         by next going zero e = let s = judges .some positive in absurd (omega arith)
         by next going (suc f) e =
             field-stops W us m at to going k next (suc f)
-            (read-fault (W .source .base) (λ s. sourceUnits W (K.size s)) (W .source .missing) (W .source .meaningless) us at k v (rw sized (there .inside)) (rw sized (there .value-is)) f e)
+            (read-fault (W .source .base) (λ s. sourceUnits W (K.size s)) (W .source .meant) (W .source .missing) (W .source .meaningless) us at k v (rw sized (there .inside)) (value-meant W us at k size x v sized there means) f e)
             ∙ ap (λ x. stopped (W .number x) (W .place at)) (sym e)
             ∙ ap (λ x. stopped x (W .place at)) (judges .number-is positive)
 

@@ -9,36 +9,12 @@ use mathlib.Core.List.{List}
 use lib.ListN.{length, getD}
 use Rattle.format.specs.Digits.{Below}
 use Rattle.format.specs.LeafLaws.{field-below, field-one}
-use Rattle.drawing.specs.Codecs.{byteFields, wordFields}
 use Rattle.memory.specs.Sizes.{isRun}
 use Rattle.memory.specs.SizeLaws.{each-run}
 use Rattle.memory.specs.Runs.{SmallWords}
-use Rattle.ways.specs.Way.{Units, Blind, Way, codec, sourceUnits, valueAt}
+use Rattle.ways.specs.Way.{Blind, Way, sourceUnits, valueAt}
+use Rattle.ways.specs.CodecUnits.{fileBytes, tableWords}
 use Rattle.ways.specs.Runs.{AllSmall}
-
-abbrev words : Units
-words =
-    record {
-      base = 2 ^ 32;
-      pick = λ bytes words. words;
-      missing = 16;
-      meaningless = 16;
-      positive = omega arith;
-      least = λ n h. omega arith;
-      most = λ n h. omega arith;
-    }
-
-abbrev bytes : Units
-bytes =
-    record {
-      base = 256;
-      pick = λ bytes words. bytes;
-      missing = 2;
-      meaningless = 5;
-      positive = omega arith;
-      least = λ n h. h;
-      most = λ n h. h;
-    }
 
 -- Everything that is wrong with a table is 16, at no place.
 pub blind : Blind (λ n. 16) (λ at. 0)
@@ -47,21 +23,14 @@ blind = record { one-number = λ n n′. refl; one-place = λ at at′. refl }
 abbrev pub tableWay : Way
 tableWay =
     record {
-      source = words;
-      target = bytes;
+      source = tableWords;
+      target = fileBytes;
       number = λ n. 16;
       place = λ at. 0;
       before = λ at. omega arith;
       some = omega arith;
       tells = inr blind;
     }
-
--- The codecs are those of the definitions.
-pub from-table : codec (tableWay .source) ≡ wordFields
-from-table = refl
-
-pub to-file : codec (tableWay .target) ≡ byteFields
-to-file = refl
 
 -- ---- which words are values
 

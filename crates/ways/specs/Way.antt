@@ -5,29 +5,34 @@ use Prim.Native.Nat.{ℕ, _+_, _/_, _^_, _<_, _≤_}
 use mathlib.Core.List.{List}
 use lib.ListN.{take, drop}
 use Rattle.format.specs.Digits.{number}
-use Rattle.format.specs.Kind.{size}
+use mathlib.Core.Bool.{false}
+use Rattle.format.specs.Kind.{Shape, isFlag, size, values}
 use Rattle.format.specs.FixedCodec.{Fixed}
-use Rattle.format.specs.FixedReading.{literal}
+use Rattle.format.specs.FixedReading.{standing}
 use Rattle.format.specs.Pass.{Route, stopped}
 
--- How fields lie in units, in which a number stands for itself.
+-- How fields lie in units.
 pub record Units : Type 0 where
   pub base : ℕ
   -- what is so many bytes in a file, and so many words in a table
   pub pick : (bytes words : ℕ) → ℕ
+  -- the value that a number stands for: itself, but in a flag there may be several for true
+  pub meant : Shape → ℕ → ℕ
   -- the numbers for a field that is cut, and for a number that is no value
   pub missing : ℕ
   pub meaningless : ℕ
   pub positive : 0 < base
   pub least : (n : ℕ) → 0 < n → 0 < pick n ((n + 3) / 4)
   pub most : (n : ℕ) → n ≤ 8 → pick n ((n + 3) / 4) ≤ 8
+  pub own : (s : Shape) (v : ℕ) → v < values s → meant s v ≡ v
+  pub plain : (s : Shape) (x : ℕ) → isFlag s ≡ false → meant s x ≡ x
 
 -- The units of a field of so many bytes.
 abbrev pub widthOf : Units → ℕ → ℕ
 widthOf U n = U .pick n ((n + 3) / 4)
 
 abbrev pub codec : Units → Fixed
-codec U = literal (U .base) (λ s. widthOf U (size s)) (U .missing) (U .meaningless)
+codec U = standing (U .base) (λ s. widthOf U (size s)) (U .meant) (U .missing) (U .meaningless)
 
 -- Refusals tell all: a field that is cut or meaningless has the number that the code gives it, and its units write nothing but what its bytes hold.
 pub record Exact (U : Units) : Type 0 where

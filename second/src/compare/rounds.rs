@@ -18,7 +18,8 @@ use second::version::{Version, LONGEST_FILE};
 use second::{list, read, write};
 use std::collections::BTreeSet;
 
-/// What the calls of a round are made from. The drawing may be over a limit, or have what its version lacks.
+/// What the calls of a round are made from. The drawing may be over a limit, or have what its version lacks; the file may spell true
+/// otherwise than the writer does.
 struct Round {
     drawing: Drawing,
     file: Vec<u8>,
@@ -31,7 +32,7 @@ pub fn round(comparer: &mut Comparer, seed: u64) {
     comparer.random = Random::new(seed);
     comparer.report.seed = seed;
     let drawing = some_coordinates(&mut comparer.random);
-    let round = Round {
+    let mut round = Round {
         file: write::file(&drawing),
         table: table::of(&drawing),
         file_fields: of_file(&drawing),
@@ -39,6 +40,7 @@ pub fn round(comparer: &mut Comparer, seed: u64) {
         drawing,
     };
     count(comparer, &round);
+    respell(comparer, &mut round);
     read_in_rooms(comparer, &round.file, &round.table);
     read_damaged(comparer, &round);
     ask_about(comparer, &round);
@@ -63,6 +65,17 @@ fn count(comparer: &mut Comparer, round: &Round) {
     }
     for depth in empty {
         comparer.report.met(format!("empty group at depth {depth:02}"));
+    }
+}
+
+/// In every other round the file has other bytes than 1 for true, if the drawing has a true flag.
+fn respell(comparer: &mut Comparer, round: &mut Round) {
+    if comparer.random.flag() {
+        let file = files::respelled(&mut comparer.random, &round.file, &round.file_fields);
+        if file != round.file {
+            comparer.report.met("true flags other than 1".to_string());
+        }
+        round.file = file;
     }
 }
 

@@ -1,4 +1,4 @@
-//! The values that are at fault in a field, each with the number that 01 gives it.
+//! The values that are at fault in a field of a file, each with the number that 01 gives it, and those that a table may not have.
 
 use crate::layout::{three_chars, Kind};
 use crate::version::DEEPEST_GROUP;
@@ -10,14 +10,25 @@ pub struct Fault {
     pub number: u32,
 }
 
+/// Bytes other than 1 that are true (02, R-4).
+pub const OTHER_TRUE: [u64; 5] = [2, 3, 127, 128, 255];
+
+/// The values of a word that are at fault in a table: those of a file's field, and in a flag all but 0 and 1.
+pub fn word_faults(kind: Kind, value: u64) -> Vec<u64> {
+    match kind {
+        Kind::Flag { .. } => OTHER_TRUE.to_vec(),
+        _ => faults(kind, value).into_iter().map(|fault| fault.value).collect(),
+    }
+}
+
 /// All faults that can be put into a field which now has this value.
 pub fn faults(kind: Kind, value: u64) -> Vec<Fault> {
     match kind {
         Kind::Signature => all(3, ["JDS", "AJR", "jdr", "JD\0", "\0JD"].map(letters)),
         Kind::VersionLength => all(4, [0, 1, 2, 4, -1, i32::MIN, i32::MAX].map(integer)),
         Kind::VersionChars => all(4, ["1.6", "1.7", "2.0", "0.0", "1,0", "1./", "\0\0\0"].map(letters)),
-        Kind::Flag => all(5, [2, 3, 127, 128, 255]),
-        Kind::FlowFlag => [all(5, [2, 3, 127, 128, 255]), all(11, [1])].concat(),
+        Kind::Flag { .. } => Vec::new(),
+        Kind::FlowFlag => [all(11, [1]), all(11, OTHER_TRUE)].concat(),
         Kind::Byte { low, high } => byte_faults(low, high),
         Kind::MarkerId { high, .. } => marker_faults(kind, high),
         Kind::Integer { low, high } => integer_faults(low, high),

@@ -1,6 +1,6 @@
 //! Damage to files.
 
-use super::faults::{faults, Fault};
+use super::faults::{faults, Fault, OTHER_TRUE};
 use super::fields::Field;
 use crate::layout::{three_chars, Kind};
 use crate::random::Random;
@@ -12,6 +12,21 @@ pub fn put(file: &[u8], field: &Field, value: u64) -> Vec<u8> {
     let width = field.kind.width();
     file[field.place..field.place + width].copy_from_slice(&value.to_be_bytes()[8 - width..]);
     file
+}
+
+/// The file with other bytes for true in about every second true flag: it holds the same drawing.
+pub fn respelled(random: &mut Random, file: &[u8], fields: &[Field]) -> Vec<u8> {
+    let mut file = file.to_vec();
+    for field in fields.iter().filter(|field| is_true_flag(field)) {
+        if random.flag() {
+            file[field.place] = *random.pick(&OTHER_TRUE) as u8;
+        }
+    }
+    file
+}
+
+pub fn is_true_flag(field: &Field) -> bool {
+    matches!(field.kind, Kind::Flag { .. }) && field.value == 1
 }
 
 /// The file and one more run of bytes.
@@ -26,7 +41,7 @@ pub fn random_bytes(random: &mut Random, count: usize) -> Vec<u8> {
 
 /// A file damaged in one way or another; its fields are those of the good file.
 pub fn any(random: &mut Random, file: &[u8], fields: &[Field]) -> Vec<u8> {
-    match random.below(16) {
+    match random.below(17) {
         0 | 1 => file[..random.within(0, file.len())].to_vec(),
         2 => one_byte(random, file),
         3 => {
@@ -42,6 +57,7 @@ pub fn any(random: &mut Random, file: &[u8], fields: &[Field]) -> Vec<u8> {
         }
         8 => head_and_noise(random, file),
         9 => other_version(random, file, fields),
+        10 => respelled(random, file, fields),
         _ => one_fault(random, file, fields),
     }
 }

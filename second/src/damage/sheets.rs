@@ -2,7 +2,7 @@
 //!
 //! The functions that name what they did give bytes that are no sheet; `any` may give a sheet again.
 
-use super::faults::faults;
+use super::faults::word_faults;
 use super::fields::Field;
 use super::files::{longer, one_byte, random_bytes};
 use super::tables;
@@ -165,7 +165,7 @@ pub fn other_numbers(table: &Table, place: usize) -> Named {
 pub fn wrong_words(table: &Table, field: &Field) -> Named {
     let width = field.kind.width();
     let too_wide = (width < WORD).then(|| field.value | 1 << (8 * width));
-    let values = faults(field.kind, field.value).into_iter().map(|fault| fault.value).chain(too_wide);
+    let values = word_faults(field.kind, field.value).into_iter().chain(too_wide);
     let with = |value| {
         let mut table = table.clone();
         tables::put(&mut table.bodies, field, value);

@@ -1,7 +1,7 @@
 //! Damage to tables.
 
+use super::faults::word_faults;
 use super::fields::{words, Field};
-use super::files::random_fault;
 use crate::random::Random;
 use crate::table::{Table, ROW};
 use crate::version::Version;
@@ -83,8 +83,13 @@ pub fn put(bodies: &mut [u32], field: &Field, value: u64) {
 }
 
 fn faulty_field(random: &mut Random, table: &mut Table, fields: &[Field]) {
-    if let Some((field, fault)) = random_fault(random, fields) {
-        put(&mut table.bodies, &field, fault.value);
+    // Many fields are free chars, so look some times.
+    for _ in 0..20 {
+        let field = random.pick(fields);
+        let faults = word_faults(field.kind, field.value);
+        if !faults.is_empty() {
+            return put(&mut table.bodies, field, *random.pick(&faults));
+        }
     }
 }
 

@@ -150,6 +150,14 @@ impl<W: Words> Walk for FromFile<'_, W> {
         Ok(word)
     }
 
+    /// Any byte but 0 is true, and its word is 1.
+    #[inline(always)]
+    fn flag(&mut self, of_true: u32) -> Result<bool, Refusal> {
+        let [byte] = self.take::<1>(|[byte]| if byte == 0 { 0 } else { of_true })?;
+        self.out.word(u32::from(byte != 0));
+        Ok(byte != 0)
+    }
+
     #[inline(always)]
     fn double(&mut self, fault: impl FnOnce(u64) -> u32) -> Result<u64, Refusal> {
         let double = u64::from_be_bytes(self.take::<8>(|bytes| fault(u64::from_be_bytes(bytes)))?);

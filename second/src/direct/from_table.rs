@@ -119,6 +119,15 @@ impl<S: Source, B: Bytes<S>> Walk for FromTable<S, B> {
         Ok(word)
     }
 
+    /// A word is 0 or 1, and no other.
+    #[inline(always)]
+    fn flag(&mut self, of_true: u32) -> Result<bool, NoTable> {
+        let word = self.word()?;
+        only_if(word == 0 || (word == 1 && of_true == 0))?;
+        self.out.field::<1>(word);
+        Ok(word == 1)
+    }
+
     #[inline(always)]
     fn double(&mut self, fault: impl FnOnce(u64) -> u32) -> Result<u64, NoTable> {
         let (high, low) = (self.word()?, self.word()?);

@@ -27,6 +27,9 @@ pub trait Walk {
     /// A field of 1, 2 or 4 bytes, which is a word of the table. `fault` gives the number of what is wrong with its bits, or 0.
     fn field<const WIDTH: usize>(&mut self, fault: impl FnOnce(u32) -> u32) -> Result<u32, Self::Stop>;
 
+    /// A flag, which may have this fault where it is true.
+    fn flag(&mut self, of_true: u32) -> Result<bool, Self::Stop>;
+
     /// A double.
     fn double(&mut self, fault: impl FnOnce(u64) -> u32) -> Result<u64, Self::Stop>;
 
@@ -63,7 +66,7 @@ fn unless(good: bool, number: u32) -> u32 {
 }
 
 fn flag<W: Walk>(walk: &mut W) -> Result<bool, W::Stop> {
-    Ok(walk.field::<1>(|bits| unless(bits <= 1, 5))? == 1)
+    walk.flag(0)
 }
 
 /// A byte from `low` to `high`, neither of them negative.
@@ -312,11 +315,7 @@ fn bitmap<W: Walk>(walk: &mut W) -> Result<(), W::Stop> {
 
 /// The flow frame flag, and from 1.2 the description.
 fn ending<W: Walk>(walk: &mut W, minor: u32) -> Result<(), W::Stop> {
-    walk.field::<1>(|bits| match bits {
-        0 => 0,
-        1 => 11,
-        _ => 5,
-    })?;
+    walk.flag(11)?;
     let length = if minor >= 2 { string(walk, 0)? } else { 0 };
     walk.described(length);
     Ok(())

@@ -81,7 +81,7 @@ fn text_style(out: &mut impl Fields, style: &TextStyle) {
     byte(out, 0, 1, style.series);
     integer(out, Kind::Integer { low: 0, high: i32::MAX }, style.size);
     doubles(out, &style.transformation);
-    flag(out, style.latex.is_some());
+    flag(out, "LaTeX", style.latex.is_some());
     if let Some(latex) = &style.latex {
         latex_fields(out, latex);
     }
@@ -99,7 +99,7 @@ fn latex_fields(out: &mut impl Fields, latex: &Latex) {
 
 fn bitmap(out: &mut impl Fields, bitmap: &Bitmap) {
     string(out, 1, &bitmap.name);
-    flag(out, bitmap.latex.is_some());
+    flag(out, "bitmap", bitmap.latex.is_some());
     if let Some(latex) = &bitmap.latex {
         string(out, 0, &latex.link);
         string(out, 0, &latex.command);
@@ -188,8 +188,8 @@ fn arrow(out: &mut impl Fields, version: Version, arrow: &Option<Arrow>) {
         Some(arrow) => {
             out.field(kind, u64::from(arrow.id));
             float(out, Kind::Float, arrow.size);
-            flag(out, arrow.double);
-            flag(out, arrow.reversed);
+            flag(out, "double", arrow.double);
+            flag(out, "reversed", arrow.reversed);
         }
     }
 }
@@ -208,14 +208,14 @@ fn chain(out: &mut impl Fields, version: Version, chain: &Chain) {
 fn marker(out: &mut impl Fields, version: Version, marker: &Marker) {
     float(out, Kind::Float, marker.size);
     byte(out, 1, 3, marker.repeat);
-    flag(out, marker.reversed);
-    flag(out, marker.angle.is_none());
+    flag(out, "reversed", marker.reversed);
+    flag(out, "auto-orient", marker.angle.is_none());
     optional_float(out, marker.angle);
     plain(out, version.plain_letters(), &marker.paint);
-    flag(out, marker.overlay);
+    flag(out, "overlay", marker.overlay);
     if version.has_marker_offsets() && !marker.overlay {
-        for offset in [marker.user_offset, marker.repeat_offset] {
-            flag(out, offset.is_some());
+        for (of, offset) in [("first offset", marker.user_offset), ("second offset", marker.repeat_offset)] {
+            flag(out, of, offset.is_some());
             optional_float(out, offset);
         }
     }

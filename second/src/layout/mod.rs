@@ -16,7 +16,10 @@ pub enum Kind {
     VersionLength,
     /// The version's three chars, one field.
     VersionChars,
-    Flag,
+    /// What the flag is of.
+    Flag {
+        of: &'static str,
+    },
     FlowFlag,
     Byte {
         low: i8,
@@ -64,7 +67,7 @@ impl Kind {
     /// How many bytes the field has.
     pub fn width(self) -> usize {
         match self {
-            Kind::Flag | Kind::FlowFlag | Kind::Byte { .. } | Kind::MarkerId { .. } => 1,
+            Kind::Flag { .. } | Kind::FlowFlag | Kind::Byte { .. } | Kind::MarkerId { .. } => 1,
             Kind::ObjectId { .. } | Kind::Letter { .. } | Kind::Char => 2,
             Kind::VersionLength | Kind::Integer { .. } => 4,
             Kind::Count { .. } | Kind::DashCount | Kind::Members => 4,
@@ -80,7 +83,7 @@ impl Kind {
             Kind::Signature => "signature",
             Kind::VersionLength => "version length",
             Kind::VersionChars => "version",
-            Kind::Flag => "flag",
+            Kind::Flag { .. } => "flag",
             Kind::FlowFlag => "flow flag",
             Kind::Byte { .. } => "byte",
             Kind::MarkerId { .. } => "marker id",
@@ -149,7 +152,7 @@ pub fn settings(out: &mut impl Fields, version: Version, settings: &Settings) {
     if version.has_settings_byte() {
         out.field(Kind::Byte { low: 0, high: 2 }, id);
     } else {
-        out.field(Kind::Flag, id);
+        out.field(Kind::Flag { of: "settings" }, id);
     }
     match settings {
         Settings::None => {}
@@ -159,9 +162,9 @@ pub fn settings(out: &mut impl Fields, version: Version, settings: &Settings) {
 }
 
 fn all_settings(out: &mut impl Fields, version: Version, all: &AllSettings) {
-    flag(out, all.grid);
-    flag(out, all.lock);
-    flag(out, all.rulers);
+    flag(out, "grid", all.grid);
+    flag(out, "lock", all.lock);
+    flag(out, "rulers", all.rulers);
     integer(out, Kind::Integer { low: 0, high: 7 }, all.tool);
     integer(out, Kind::ANY_INTEGER, all.normal_size);
     paper(out, version, &all.paper);
@@ -177,7 +180,7 @@ fn paper(out: &mut impl Fields, version: Version, paper: &Paper) {
         out.field(Kind::Double, own.width);
         out.field(Kind::Double, own.height);
         if let Some(portrait) = own.portrait {
-            flag(out, portrait);
+            flag(out, "portrait", portrait);
         }
     }
 }
@@ -228,8 +231,8 @@ pub fn ending(out: &mut impl Fields, version: Version, description: &Chars) {
     }
 }
 
-fn flag(out: &mut impl Fields, value: bool) {
-    out.field(Kind::Flag, u64::from(value));
+fn flag(out: &mut impl Fields, of: &'static str, value: bool) {
+    out.field(Kind::Flag { of }, u64::from(value));
 }
 
 fn integer(out: &mut impl Fields, kind: Kind, value: i32) {

@@ -1,4 +1,4 @@
-//! Files that are refused: each number from 2 to 13 in every version and every sort of field.
+//! Files that are refused: each number from 2 to 13 but 5 in every version and every sort of field.
 
 use crate::damage::faults::{faults, Fault};
 use crate::damage::fields::{at_outline, of_file, Field};
@@ -202,7 +202,7 @@ fn orders(files: &mut Files, seed: u64) {
     let wrong = put(&whole.file, &whole.fields[2], u64::MAX);
     files.push(("a wrong version, cut: 2 at 10".into(), wrong[..13].to_vec()));
     let settings = put(&whole.file, &whole.fields[3], 7);
-    files.push(("settings 7 and then a cut: 5 at 16".into(), settings[..17].to_vec()));
+    files.push(("settings 7, which is true, and then a cut: 2 at 17".into(), settings[..17].to_vec()));
     for version in [v0, v1, v2] {
         joins(files, &Whole::new(seed + 31, version));
     }

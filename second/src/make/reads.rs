@@ -2,6 +2,7 @@
 
 use super::{broken, hash, Case, FILL};
 use crate::answer::Answer;
+use crate::damage::fields::of_file;
 use crate::damage::files;
 use crate::generate::edges::{at_ends, every_pairing, every_settings};
 use crate::generate::special::{
@@ -9,6 +10,7 @@ use crate::generate::special::{
     with_text_path,
 };
 use crate::generate::{self, chars};
+use crate::layout::Kind;
 use crate::model::{Drawing, Object};
 use crate::plans;
 use crate::random::Random;
@@ -25,6 +27,7 @@ pub fn cases(seed: u64) -> Vec<Case> {
     limits(&mut files, seed);
     good(&mut files, seed);
     empty_groups(&mut files, seed);
+    true_flags(&mut files, seed);
     broken::add(&mut files, seed);
     noise(&mut files, seed);
     files.into_iter().map(|(name, data)| Case { name, groups: groups(read_call, &data), data }).collect()
@@ -129,6 +132,47 @@ fn empty_groups(files: &mut Files, seed: u64) {
         let with_one_before = |object| [special::empty_groups(1), vec![object]].concat();
         drawing.outer.objects = drawing.outer.objects.into_iter().flat_map(with_one_before).collect();
         add(files, "an empty group before each object", version, &drawing);
+    }
+}
+
+/// The bytes that each sort of flag is given for true (02, R-4).
+pub const TRUE_BYTES: [u8; 4] = [2, 127, 128, 255];
+
+/// Each sort of flag of each version, true by other bytes than 1; all of a drawing's flags at once; and flow frame flags.
+fn true_flags(files: &mut Files, seed: u64) {
+    for version in Version::ALL {
+        let mut drawings = vec![sampler(seed, version), at_ends(seed, version, true)];
+        drawings.extend(every_settings(seed, version));
+        drawings.extend((0..20).map(|more| generate::drawing(seed + more, version, 900)));
+        let mut met = Vec::new();
+        for drawing in &drawings {
+            let file = write::file(drawing);
+            for field in of_file(drawing).iter().filter(|field| files::is_true_flag(field)) {
+                let Kind::Flag { of } = field.kind else { continue };
+                if met.contains(&of) {
+                    continue;
+                }
+                met.push(of);
+                for byte in TRUE_BYTES {
+                    let what = format!("1.{}: {of} flag of {byte} at {}", version.minor(), field.place);
+                    files.push((what, files::put(&file, field, byte.into())));
+                }
+            }
+        }
+        let all = sampler(seed + 2, version);
+        let mut file = write::file(&all);
+        let fields = of_file(&all);
+        let flow_flags: Vec<_> = fields.iter().filter(|field| field.kind == Kind::FlowFlag).collect();
+        for (field, byte) in flow_flags.iter().rev().zip(TRUE_BYTES) {
+            let what = format!("1.{}: 11: flow flag of {byte} at {}", version.minor(), field.place);
+            files.push((what, files::put(&file, field, byte.into())));
+        }
+        for (field, byte) in
+            fields.iter().filter(|field| files::is_true_flag(field)).zip(TRUE_BYTES.iter().cycle())
+        {
+            file[field.place] = *byte;
+        }
+        files.push((format!("1.{}: every true flag of another byte", version.minor()), file));
     }
 }
 

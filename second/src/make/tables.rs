@@ -3,7 +3,7 @@
 use super::{hash, table_data, Case, FILL_BYTE};
 use crate::answer::Answer;
 use crate::check::{self, Good};
-use crate::damage::faults::faults;
+use crate::damage::faults::word_faults;
 use crate::damage::fields::{at_outline, of_bodies, Field};
 use crate::damage::tables::{deep, exchange_bodies, put};
 use crate::generate::special::{
@@ -184,7 +184,7 @@ fn broken_fields(tables: &mut Tables, drawing: &Drawing, fields: &[Field], seed:
     let table = table::of(drawing);
     let mut random = Random::new(seed + u64::from(version.minor()));
     let kinds: [(&str, Wanted); 11] = [
-        ("flag", |kind| kind == Kind::Flag),
+        ("flag", |kind| matches!(kind, Kind::Flag { .. })),
         ("flow flag", |kind| kind == Kind::FlowFlag),
         ("byte", |kind| matches!(kind, Kind::Byte { .. })),
         ("marker id", |kind| matches!(kind, Kind::MarkerId { .. })),
@@ -283,13 +283,13 @@ fn empty_groups(tables: &mut Tables, version: Version) {
 
 /// A fault of the field; a count one off, up or down; for a narrow field a bit above its own; a free one changed.
 fn other_value(random: &mut Random, name: &str, field: &Field) -> u64 {
-    let faults = faults(field.kind, field.value);
+    let faults = word_faults(field.kind, field.value);
     match name {
         "count" | "group's count" if field.value == 0 || random.flag() => field.value + 1,
         "count" | "group's count" => field.value - 1,
         "narrow" => field.value | 1 << (8 * field.kind.width()),
         _ if faults.is_empty() => field.value ^ 1,
-        _ => random.pick(&faults).value,
+        _ => *random.pick(&faults),
     }
 }
 

@@ -100,17 +100,13 @@ impl<'a> Source<'a> {
         Ok(value.cast_unsigned())
     }
 
-    /// A flag, 0 or 1: otherwise 5.
+    /// A flag: 'any byte that is not 0' is true (02, R-4), so 5 is never given.
     pub fn flag(&mut self) -> Taken<bool> {
-        let offset = self.at;
-        match self.take::<1>()? {
-            [0] => Ok(false),
-            [1] => Ok(true),
-            _ => Err(refusal(5, offset)),
-        }
+        let [byte] = self.take::<1>()?;
+        Ok(byte != 0)
     }
 
-    /// The flow frame flag: 5 comes before 11.
+    /// The flow frame flag: 11 where it is true.
     pub fn flow_flag(&mut self) -> Taken<()> {
         let offset = self.at;
         if self.flag()? {

@@ -70,6 +70,17 @@ doubles (n ∷ ns) = double n ∷ doubles ns
 abbrev pub head : Char → List Item
 head minor = char "J" ∷ char "D" ∷ char "R" ∷ int 3 ∷ char "1" ∷ char "." ∷ char minor ∷ []
 
+-- The same fields, with another byte for true in each flag.
+abbrev pub otherwise : Item → Item
+otherwise (byte n) = byte n
+otherwise (flag zero) = flag 0
+otherwise (flag (suc n)) = flag 255
+otherwise (int n) = int n
+otherwise (float n) = float n
+otherwise (double n) = double n
+otherwise (char c) = char c
+otherwise (coded s) = coded s
+
 -- ---- for the trees
 
 abbrev pub at : ℕ → ℕ → Point

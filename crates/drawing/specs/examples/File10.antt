@@ -4,7 +4,7 @@ use mathlib.Core.Path.{refl}
 use mathlib.Core.Option.{none, some}
 use Prim.Native.Nat.{ℕ}
 use Prim.Native.Char.{code}
-use mathlib.Core.List.{List, [], _∷_, _++_}
+use mathlib.Core.List.{List, [], _∷_, _++_, map}
 use lib.Ieee.{le, ofInt, ofBits}
 use Rattle.format.specs.FloatRange.{fromZeroTo}
 use Rattle.drawing.specs.Paint.{transparent, rgb, cmyk, plain, linear}
@@ -14,8 +14,8 @@ use Rattle.drawing.specs.Bitmap.{Bitmap}
 use Rattle.drawing.specs.Settings.{Settings, all}
 use Rattle.drawing.specs.Object.{path, text, bitmap, leaf, group, ofList}
 use Rattle.drawing.specs.Drawing.{Drawing}
-use Rattle.drawing.specs.examples.Whole.{Whole}
-use Rattle.drawing.specs.examples.Bytes.{Item, byte, flag, int, float, double, char, string, codes, bytes, words, floats, doubles, head, at}
+use Rattle.drawing.specs.examples.Whole.{Whole, Respelled}
+use Rattle.drawing.specs.examples.Bytes.{Item, byte, flag, int, float, double, char, string, codes, bytes, words, floats, doubles, head, at, otherwise}
 
 -- ---- the settings
 
@@ -194,10 +194,9 @@ latexValue =
 
 -- ---- the file: groups are rows 0, 2, 3 and 4
 
-abbrev file : List ℕ
-file =
-    bytes
-    (head "0" ++ settingsFields
+abbrev items : List Item
+items =
+    head "0" ++ settingsFields
     ++ char "G" ∷ int 4 ∷ char "P" ∷ openFields
     ++ char "G" ∷ int 3
     ∷ char "G" ∷ int 1
@@ -206,7 +205,10 @@ file =
     ++ char "P" ∷ closedFields
     ++ flag 0 ∷ char "I" ∷ linkedFields
     ++ char "T" ∷ latexFields
-    ++ flag 0 ∷ [])
+    ++ flag 0 ∷ []
+
+abbrev file : List ℕ
+file = bytes items
 
 abbrev tree : Drawing
 tree =
@@ -238,15 +240,21 @@ contents =
     ∷ []
 
 -- The minor version and the settings; then rows 1, 5, 4, 3, 6, 7, 2, 8, 9 and 0, as the objects end.
-abbrev bodies : List ℕ
-bodies =
-    words
-    (int 0 ∷ settingsFields
+abbrev bodyItems : List Item
+bodyItems =
+    int 0 ∷ settingsFields
     ++ openFields
     ++ pictureFields ++ int 1 ∷ flag 0 ∷ [] ++ int 1 ∷ flag 0 ∷ []
     ++ plainFields ++ closedFields ++ int 3 ∷ flag 0 ∷ []
-    ++ linkedFields ++ latexFields ++ int 4 ∷ flag 0 ∷ [])
+    ++ linkedFields ++ latexFields ++ int 4 ∷ flag 0 ∷ []
+
+abbrev bodies : List ℕ
+bodies = words bodyItems
 
 whole : Whole file tree contents bodies
 unfolding fromZeroTo le ofInt ofBits
 whole = record { reads = refl; writes = refl; rows = refl; words = refl; back = refl }
+
+respelled : Respelled (bytes (map otherwise items)) file tree contents (words (map otherwise bodyItems))
+unfolding fromZeroTo le ofInt ofBits
+respelled = record { reads = refl; made = refl; strict = refl }

@@ -4,7 +4,7 @@ use mathlib.Core.Path.{refl}
 use mathlib.Core.Option.{Option, none, some}
 use Prim.Native.Nat.{ℕ}
 use Prim.Native.Char.{code}
-use mathlib.Core.List.{List, [], _∷_, _++_}
+use mathlib.Core.List.{List, [], _∷_, _++_, map}
 use lib.Ieee.{le, ofInt, ofBits}
 use Rattle.format.specs.FloatRange.{fromZeroTo}
 use Rattle.drawing.specs.Paint.{transparent, rgb, cmyk, plain, linear}
@@ -15,8 +15,8 @@ use Rattle.drawing.specs.Bitmap.{Bitmap}
 use Rattle.drawing.specs.Settings.{absent}
 use Rattle.drawing.specs.Object.{path, text, bitmap, leaf, group, ofList}
 use Rattle.drawing.specs.Drawing.{Drawing}
-use Rattle.drawing.specs.examples.Whole.{Whole}
-use Rattle.drawing.specs.examples.Bytes.{Item, byte, flag, int, float, double, char, string, codes, bytes, words, floats, doubles, head, at}
+use Rattle.drawing.specs.examples.Whole.{Whole, Respelled}
+use Rattle.drawing.specs.examples.Bytes.{Item, byte, flag, int, float, double, char, string, codes, bytes, words, floats, doubles, head, at, otherwise}
 
 -- ---- row 1: a path with no start marker, one mid marker and two end markers
 
@@ -170,16 +170,18 @@ bitmapValue =
 
 -- ---- the file: groups are rows 0, 2 and 3
 
-abbrev file : List ℕ
-file =
-    bytes
-    (head "1" ++ flag 0
+abbrev items : List Item
+items =
+    head "1" ++ flag 0
     ∷ char "G" ∷ int 3 ∷ char "P" ∷ firstFields
     ++ char "G" ∷ int 2
     ∷ char "G" ∷ int 1 ∷ char "P" ∷ secondFields
     ++ flag 0 ∷ char "T" ∷ textFields
     ++ flag 0 ∷ char "I" ∷ bitmapFields
-    ++ flag 0 ∷ [])
+    ++ flag 0 ∷ []
+
+abbrev file : List ℕ
+file = bytes items
 
 abbrev tree : Drawing
 tree =
@@ -207,15 +209,21 @@ contents =
     ∷ []
 
 -- The minor version and the settings flag; then rows 1, 4, 3, 5, 2, 6 and 0, as the objects end.
-abbrev bodies : List ℕ
-bodies =
-    words
-    (int 1 ∷ flag 0
+abbrev bodyItems : List Item
+bodyItems =
+    int 1 ∷ flag 0
     ∷ firstFields
     ++ secondFields ++ int 1 ∷ flag 0 ∷ []
     ++ textFields ++ int 2 ∷ flag 0 ∷ []
-    ++ bitmapFields ++ int 3 ∷ flag 0 ∷ [])
+    ++ bitmapFields ++ int 3 ∷ flag 0 ∷ []
+
+abbrev bodies : List ℕ
+bodies = words bodyItems
 
 whole : Whole file tree contents bodies
 unfolding fromZeroTo le ofInt ofBits
 whole = record { reads = refl; writes = refl; rows = refl; words = refl; back = refl }
+
+respelled : Respelled (bytes (map otherwise items)) file tree contents (words (map otherwise bodyItems))
+unfolding fromZeroTo le ofInt ofBits
+respelled = record { reads = refl; made = refl; strict = refl }

@@ -24,8 +24,8 @@ use Rattle.drawing.specs.Drawing.{Drawing}
 use Rattle.drawing.specs.Order.{entries, groupsAround}
 use Rattle.drawing.specs.Answers.{answer}
 use Rattle.drawing.specs.Computed.{readResult, checkAnswer, listOutput, paintAnswer, textAnswer}
-use Rattle.drawing.specs.examples.Whole.{Whole}
-use Rattle.drawing.specs.examples.Bytes.{Item, byte, flag, int, float, double, char, string, coded, codes, bytes, words, floats, doubles, head, at}
+use Rattle.drawing.specs.examples.Whole.{Whole, Respelled}
+use Rattle.drawing.specs.examples.Bytes.{Item, byte, flag, int, float, double, char, string, coded, codes, bytes, words, floats, doubles, head, at, otherwise}
 
 -- ---- the settings
 
@@ -152,10 +152,9 @@ linkedValue =
 
 -- ---- the file: groups are rows 0, 2, 3 and 4, with the descriptions top, a lone surrogate with a second char, x and y
 
-abbrev file : List ℕ
-file =
-    bytes
-    (head "2" ++ settingsFields
+abbrev items : List Item
+items =
+    head "2" ++ settingsFields
     ++ char "G" ∷ int 3 ∷ char "I" ∷ bitmapFields
     ++ char "G" ∷ int 2
     ∷ char "G" ∷ int 2
@@ -163,7 +162,10 @@ file =
     ++ flag 0 ∷ string "y" ∷ char "P" ∷ markedFields
     ++ flag 0 ∷ string "x" ∷ char "T" ∷ plainFields
     ++ flag 0 ∷ coded (0xD800 ∷ 0xFFFF ∷ []) ∷ char "I" ∷ linkedFields
-    ++ flag 0 ∷ string "top" ∷ [])
+    ++ flag 0 ∷ string "top" ∷ []
+
+abbrev file : List ℕ
+file = bytes items
 
 abbrev tree : Drawing
 tree =
@@ -198,19 +200,25 @@ contents =
     ∷ []
 
 -- The minor version and the settings; then rows 1, 5, 4, 6, 3, 7, 2, 8 and 0, as the objects end.
-abbrev bodies : List ℕ
-bodies =
-    words
-    (int 2 ∷ settingsFields
+abbrev bodyItems : List Item
+bodyItems =
+    int 2 ∷ settingsFields
     ++ bitmapFields
     ++ latexFields ++ int 1 ∷ flag 0 ∷ string "y" ∷ []
     ++ markedFields ++ int 2 ∷ flag 0 ∷ string "x" ∷ []
     ++ plainFields ++ int 2 ∷ flag 0 ∷ coded (0xD800 ∷ 0xFFFF ∷ []) ∷ []
-    ++ linkedFields ++ int 3 ∷ flag 0 ∷ string "top" ∷ [])
+    ++ linkedFields ++ int 3 ∷ flag 0 ∷ string "top" ∷ []
+
+abbrev bodies : List ℕ
+bodies = words bodyItems
 
 whole : Whole file tree contents bodies
 unfolding fromZeroTo le ofInt ofBits
 whole = record { reads = refl; writes = refl; rows = refl; words = refl; back = refl }
+
+respelled : Respelled (bytes (map otherwise items)) file tree contents (words (map otherwise bodyItems))
+unfolding fromZeroTo le ofInt ofBits
+respelled = record { reads = refl; made = refl; strict = refl }
 
 -- ---- answers
 

@@ -22,8 +22,8 @@ use Rattle.drawing.specs.Object.{path, text, bitmap, leaf, group, ofList
 use Rattle.drawing.specs.Drawing.{Drawing}
 use Rattle.drawing.specs.Order.{entries, groupsAround}
 use Rattle.drawing.specs.Computed.{paintAnswer, textAnswer}
-use Rattle.drawing.specs.examples.Whole.{Whole}
-use Rattle.drawing.specs.examples.Bytes.{Item, byte, flag, int, float, double, char, string, codes, bytes, words, floats, doubles, head, at}
+use Rattle.drawing.specs.examples.Whole.{Whole, Respelled}
+use Rattle.drawing.specs.examples.Bytes.{Item, byte, flag, int, float, double, char, string, codes, bytes, words, floats, doubles, head, at, otherwise}
 
 -- ---- the settings
 
@@ -156,17 +156,19 @@ closedValue =
 
 -- ---- the file: groups are rows 0, 1, 2 and 6; row 6 comes behind the end of row 1
 
-abbrev file : List ℕ
-file =
-    bytes
-    (head "3" ++ settingsFields
+abbrev items : List Item
+items =
+    head "3" ++ settingsFields
     ++ char "G" ∷ int 3
     ∷ char "G" ∷ int 1
     ∷ char "G" ∷ int 2 ∷ char "P" ∷ openFields
     ++ char "T" ∷ textFields
     ++ flag 0 ∷ string "inner" ∷ flag 0 ∷ string "one" ∷ char "I" ∷ bitmapFields
     ++ char "G" ∷ int 1 ∷ char "P" ∷ closedFields
-    ++ flag 0 ∷ string "one" ∷ flag 0 ∷ string "" ∷ [])
+    ++ flag 0 ∷ string "one" ∷ flag 0 ∷ string "" ∷ []
+
+abbrev file : List ℕ
+file = bytes items
 
 abbrev tree : Drawing
 tree =
@@ -195,17 +197,23 @@ contents =
     ∷ []
 
 -- The minor version and the settings; then rows 3, 4, 2, 1, 5, 7, 6 and 0, as the objects end.
-abbrev bodies : List ℕ
-bodies =
-    words
-    (int 3 ∷ settingsFields
+abbrev bodyItems : List Item
+bodyItems =
+    int 3 ∷ settingsFields
     ++ openFields ++ textFields ++ int 2 ∷ flag 0 ∷ string "inner" ∷ []
     ++ int 1 ∷ flag 0 ∷ string "one" ∷ []
-    ++ bitmapFields ++ closedFields ++ int 1 ∷ flag 0 ∷ string "one" ∷ [] ++ int 3 ∷ flag 0 ∷ string "" ∷ [])
+    ++ bitmapFields ++ closedFields ++ int 1 ∷ flag 0 ∷ string "one" ∷ [] ++ int 3 ∷ flag 0 ∷ string "" ∷ []
+
+abbrev bodies : List ℕ
+bodies = words bodyItems
 
 whole : Whole file tree contents bodies
 unfolding fromZeroTo le ofInt ofBits
 whole = record { reads = refl; writes = refl; rows = refl; words = refl; back = refl }
+
+respelled : Respelled (bytes (map otherwise items)) file tree contents (words (map otherwise bodyItems))
+unfolding fromZeroTo le ofInt ofBits
+respelled = record { reads = refl; made = refl; strict = refl }
 
 -- ---- answers
 

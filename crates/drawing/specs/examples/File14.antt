@@ -22,8 +22,8 @@ use Rattle.drawing.specs.Object.{path, text, bitmap, leaf, group, ofList
 use Rattle.drawing.specs.Drawing.{Drawing}
 use Rattle.drawing.specs.Order.{entries, groupsAround}
 use Rattle.drawing.specs.Computed.{paintAnswer, textAnswer}
-use Rattle.drawing.specs.examples.Whole.{Whole}
-use Rattle.drawing.specs.examples.Bytes.{Item, byte, flag, int, float, double, char, string, codes, bytes, words, floats, doubles, head, at}
+use Rattle.drawing.specs.examples.Whole.{Whole, Respelled}
+use Rattle.drawing.specs.examples.Bytes.{Item, byte, flag, int, float, double, char, string, codes, bytes, words, floats, doubles, head, at, otherwise}
 
 -- ---- the settings: paper only, of its own size, and no portrait flag
 
@@ -149,17 +149,19 @@ bitmapValue =
 
 -- ---- the file: groups are rows 0, 1 and 2
 
-abbrev file : List ℕ
-file =
-    bytes
-    (head "4" ++ settingsFields
+abbrev items : List Item
+items =
+    head "4" ++ settingsFields
     ++ char "G" ∷ int 3
     ∷ char "G" ∷ int 2
     ∷ char "G" ∷ int 1 ∷ char "P" ∷ markedFields
     ++ flag 0 ∷ string "c" ∷ char "P" ∷ gradientFields
     ++ flag 0 ∷ string "bb" ∷ char "T" ∷ textFields
     ++ char "I" ∷ bitmapFields
-    ++ flag 0 ∷ string "a" ∷ [])
+    ++ flag 0 ∷ string "a" ∷ []
+
+abbrev file : List ℕ
+file = bytes items
 
 abbrev tree : Drawing
 tree =
@@ -187,17 +189,23 @@ contents =
     ∷ []
 
 -- The minor version and the settings; then rows 3, 2, 4, 1, 5, 6 and 0, as the objects end.
-abbrev bodies : List ℕ
-bodies =
-    words
-    (int 4 ∷ settingsFields
+abbrev bodyItems : List Item
+bodyItems =
+    int 4 ∷ settingsFields
     ++ markedFields ++ int 1 ∷ flag 0 ∷ string "c" ∷ []
     ++ gradientFields ++ int 2 ∷ flag 0 ∷ string "bb" ∷ []
-    ++ textFields ++ bitmapFields ++ int 3 ∷ flag 0 ∷ string "a" ∷ [])
+    ++ textFields ++ bitmapFields ++ int 3 ∷ flag 0 ∷ string "a" ∷ []
+
+abbrev bodies : List ℕ
+bodies = words bodyItems
 
 whole : Whole file tree contents bodies
 unfolding fromZeroTo fromZeroBelow le lt ofInt ofBits
 whole = record { reads = refl; writes = refl; rows = refl; words = refl; back = refl }
+
+respelled : Respelled (bytes (map otherwise items)) file tree contents (words (map otherwise bodyItems))
+unfolding fromZeroTo fromZeroBelow le lt ofInt ofBits
+respelled = record { reads = refl; made = refl; strict = refl }
 
 -- ---- answers
 

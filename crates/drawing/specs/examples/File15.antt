@@ -23,8 +23,8 @@ use Rattle.drawing.specs.Drawing.{Drawing}
 use Rattle.drawing.specs.Order.{entries}
 use Rattle.drawing.specs.Extent.{noBox}
 use Rattle.drawing.specs.Computed.{checkAnswer, paintAnswer, textAnswer, extentAnswer}
-use Rattle.drawing.specs.examples.Whole.{Whole}
-use Rattle.drawing.specs.examples.Bytes.{Item, byte, flag, int, float, char, string, codes, bytes, words, floats, doubles, head, at}
+use Rattle.drawing.specs.examples.Whole.{Whole, Respelled}
+use Rattle.drawing.specs.examples.Bytes.{Item, byte, flag, int, float, char, string, codes, bytes, words, floats, doubles, head, at, otherwise}
 
 -- ---- row 1: a text along an open outline, with LaTeX fields
 
@@ -136,15 +136,17 @@ pathValue =
 
 -- ---- the file: groups are rows 0 and 2
 
-abbrev file : List ℕ
-file =
-    bytes
-    (head "5" ++ byte 0
+abbrev items : List Item
+items =
+    head "5" ++ byte 0
     ∷ char "G" ∷ int 3
     ∷ char "X" ∷ aisleFields
     ++ char "G" ∷ int 1 ∷ char "X" ∷ ringFields
     ++ flag 0 ∷ string "b" ∷ char "P" ∷ pathFields
-    ++ flag 0 ∷ string "ab" ∷ [])
+    ++ flag 0 ∷ string "ab" ∷ []
+
+abbrev file : List ℕ
+file = bytes items
 
 abbrev tree : Drawing
 tree =
@@ -166,12 +168,20 @@ contents =
     ∷ []
 
 -- The minor version and the settings; then rows 1, 3, 2, 4 and 0, as the objects end.
+abbrev bodyItems : List Item
+bodyItems =
+    int 5 ∷ byte 0 ∷ aisleFields ++ ringFields ++ int 1 ∷ flag 0 ∷ string "b" ∷ [] ++ pathFields ++ int 3 ∷ flag 0 ∷ string "ab" ∷ []
+
 abbrev bodies : List ℕ
-bodies = words (int 5 ∷ byte 0 ∷ aisleFields ++ ringFields ++ int 1 ∷ flag 0 ∷ string "b" ∷ [] ++ pathFields ++ int 3 ∷ flag 0 ∷ string "ab" ∷ [])
+bodies = words bodyItems
 
 whole : Whole file tree contents bodies
 unfolding fromZeroTo fromZeroBelow le lt ofInt ofBits
 whole = record { reads = refl; writes = refl; rows = refl; words = refl; back = refl }
+
+respelled : Respelled (bytes (map otherwise items)) file tree contents (words (map otherwise bodyItems))
+unfolding fromZeroTo fromZeroBelow le lt ofInt ofBits
+respelled = record { reads = refl; made = refl; strict = refl }
 
 -- ---- answers
 

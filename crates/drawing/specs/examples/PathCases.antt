@@ -27,23 +27,23 @@ styles =
     ∷ object "4" (style ++ byte 0 ∷ byte 0 ∷ byte 80 ∷ []) 6 42
     ∷ object "4" (style ++ byte 255 ∷ []) 6 40
     -- 1.0: size, double, reversed; no mid marker, so that the char O or C is at 42
-    ∷ object "0" (style ++ byte 7 ∷ float 0 ∷ flag 2 ∷ []) 5 45
-    ∷ object "0" (style ++ byte 7 ∷ float 0 ∷ flag 1 ∷ flag 2 ∷ []) 5 46
+    ∷ object "0" (style ++ byte 7 ∷ float 0 ∷ flag 2 ∷ []) 2 46
+    ∷ object "0" (style ++ byte 7 ∷ float 0 ∷ flag 1 ∷ flag 2 ∷ []) 2 47
     ∷ object "0" (style ++ byte 7 ∷ float 0 ∷ flag 1 ∷ flag 1 ∷ byte 8 ∷ []) 6 47
     ∷ object "0" (style ++ byte 0 ∷ byte 0 ∷ char "B" ∷ []) 7 42
     ∷ object "1" (style ++ byte 0 ∷ byte 0 ∷ byte 0 ∷ char "B" ∷ []) 7 43
     -- from 1.1: size, repeat, reversed, auto-orient, angle, paint, overlay
     ∷ object "1" (style ++ byte 21 ∷ float 0 ∷ byte 0 ∷ []) 6 45
     ∷ object "4" (style ++ byte 79 ∷ float 0 ∷ byte 4 ∷ []) 6 45
-    ∷ object "2" (style ++ byte 1 ∷ float 0 ∷ byte 3 ∷ flag 2 ∷ []) 5 46
-    ∷ object "3" (style ++ byte 1 ∷ float 0 ∷ byte 3 ∷ flag 0 ∷ flag 2 ∷ []) 5 47
+    ∷ object "2" (style ++ byte 1 ∷ float 0 ∷ byte 3 ∷ flag 2 ∷ []) 2 47
+    ∷ object "3" (style ++ byte 1 ∷ float 0 ∷ byte 3 ∷ flag 0 ∷ flag 2 ∷ []) 2 48
     ∷ object "1" (style ++ byte 1 ∷ float 0 ∷ byte 3 ∷ flag 0 ∷ flag 0 ∷ []) 2 48
-    ∷ object "1" (style ++ byte 1 ∷ float 0 ∷ byte 3 ∷ flag 0 ∷ flag 1 ∷ char "T" ∷ flag 2 ∷ []) 5 50
+    ∷ object "1" (style ++ byte 1 ∷ float 0 ∷ byte 3 ∷ flag 0 ∷ flag 1 ∷ char "T" ∷ flag 2 ∷ []) 2 51
     -- behind the overlay: in 1.4 the offsets' flags if it is 0, and otherwise the next marker
     ∷ object "3" (style ++ byte 1 ∷ float 0 ∷ byte 3 ∷ flag 0 ∷ flag 1 ∷ char "T" ∷ flag 0 ∷ byte 22 ∷ []) 6 51
-    ∷ object "4" (style ++ byte 1 ∷ float 0 ∷ byte 3 ∷ flag 0 ∷ flag 1 ∷ char "T" ∷ flag 0 ∷ flag 2 ∷ []) 5 51
-    ∷ object "4" (style ++ byte 1 ∷ float 0 ∷ byte 3 ∷ flag 0 ∷ flag 1 ∷ char "T" ∷ flag 0 ∷ flag 0 ∷ flag 2 ∷ []) 5 52
-    ∷ object "4" (style ++ byte 1 ∷ float 0 ∷ byte 3 ∷ flag 0 ∷ flag 1 ∷ char "T" ∷ flag 0 ∷ flag 1 ∷ float 0 ∷ flag 2 ∷ []) 5 56
+    ∷ object "4" (style ++ byte 1 ∷ float 0 ∷ byte 3 ∷ flag 0 ∷ flag 1 ∷ char "T" ∷ flag 0 ∷ flag 2 ∷ []) 2 52
+    ∷ object "4" (style ++ byte 1 ∷ float 0 ∷ byte 3 ∷ flag 0 ∷ flag 1 ∷ char "T" ∷ flag 0 ∷ flag 0 ∷ flag 2 ∷ []) 2 53
+    ∷ object "4" (style ++ byte 1 ∷ float 0 ∷ byte 3 ∷ flag 0 ∷ flag 1 ∷ char "T" ∷ flag 0 ∷ flag 1 ∷ float 0 ∷ flag 2 ∷ []) 2 57
     ∷ object "4" (style ++ byte 1 ∷ float 0 ∷ byte 3 ∷ flag 0 ∷ flag 1 ∷ char "T" ∷ flag 1 ∷ byte 80 ∷ []) 6 51
     -- four markers and five, in each of the three chains; an id that is not in the list comes before 10
     ∷ object "1" (style ++ times 4 marker ++ byte 21 ∷ []) 10 84

@@ -35,16 +35,16 @@ heads =
     ∷ file "/" (byte 0 ∷ []) 4 10
     -- the settings: a flag below 1.3, a byte from 1.3 on; 200 is -56
     ∷ file "0" [] 2 16
-    ∷ file "0" (flag 2 ∷ []) 5 16
-    ∷ file "2" (flag 2 ∷ []) 5 16
-    ∷ file "1" (flag 255 ∷ []) 5 16
+    ∷ file "0" (flag 2 ∷ []) 2 17
+    ∷ file "2" (flag 2 ∷ []) 2 17
+    ∷ file "1" (flag 255 ∷ []) 2 17
     ∷ file "3" [] 2 16
     ∷ file "3" (byte 3 ∷ []) 6 16
     ∷ file "4" (byte 200 ∷ []) 6 16
     -- grid, lock and rulers
-    ∷ file "3" (byte 1 ∷ flag 2 ∷ []) 5 17
-    ∷ file "0" (flag 1 ∷ flag 1 ∷ flag 3 ∷ []) 5 18
-    ∷ file "1" (flag 1 ∷ flag 1 ∷ flag 0 ∷ flag 128 ∷ []) 5 19
+    ∷ file "3" (byte 1 ∷ flag 2 ∷ []) 2 18
+    ∷ file "0" (flag 1 ∷ flag 1 ∷ flag 3 ∷ []) 2 19
+    ∷ file "1" (flag 1 ∷ flag 1 ∷ flag 0 ∷ flag 128 ∷ []) 2 20
     -- tool, paper, unit
     ∷ file "0" (flags ++ int 8 ∷ []) 6 20
     ∷ file "3" (flags ++ int 0xFFFF_FFFF ∷ []) 6 20
@@ -56,7 +56,7 @@ heads =
     ∷ file "0" (flags ++ int 7 ∷ int 0 ∷ byte 17 ∷ byte 4 ∷ []) 6 29
     ∷ file "4" (flags ++ int 7 ∷ int 0 ∷ byte 72 ∷ byte 255 ∷ []) 6 29
     -- a paper of its own size, with a portrait flag below 1.3 and the unit there from 1.3 on
-    ∷ file "2" (flags ++ int 7 ∷ int 0 ∷ byte 18 ∷ double 0 ∷ double 0 ∷ flag 2 ∷ []) 5 45
+    ∷ file "2" (flags ++ int 7 ∷ int 0 ∷ byte 18 ∷ double 0 ∷ double 0 ∷ flag 2 ∷ []) 2 46
     ∷ file "3" (flags ++ int 7 ∷ int 0 ∷ byte 18 ∷ double 0 ∷ double 0 ∷ byte 4 ∷ []) 6 45
     ∷ file "4" (byte 2 ∷ byte 18 ∷ double 0 ∷ int 0 ∷ []) 2 26
     -- the outer object
@@ -86,18 +86,18 @@ objects =
     ∷ object "0" (char "I" ∷ int 3 ∷ char "a" ∷ char "b" ∷ []) 2 33
     ∷ object "2" (char "I" ∷ int 3 ∷ char "a" ∷ byte 0 ∷ []) 2 31
     ∷ object "3" (char "I" ∷ int 0x7FFF_FFFF ∷ []) 2 29
-    ∷ object "4" (char "I" ∷ string "a" ∷ flag 2 ∷ []) 5 31
+    ∷ object "4" (char "I" ∷ string "a" ∷ flag 2 ∷ []) 2 32
     ∷ object "1" (char "I" ∷ string "a" ∷ flag 1 ∷ string "" ∷ int 0xFFFF_FFFE ∷ []) 8 36
     ∷ object "1" (char "I" ∷ string "a" ∷ flag 0 ∷ double 0 ∷ double 0 ∷ int 0 ∷ []) 2 48
     -- flow flags: of the bitmap, and of the group; a group's end comes behind its objects
     ∷ object "0" (bitmap ++ flag 1 ∷ []) 11 80
     ∷ object "3" (bitmap ++ flag 1 ∷ []) 11 80
-    ∷ object "0" (bitmap ++ flag 2 ∷ []) 5 80
-    ∷ object "4" (bitmap ++ flag 255 ∷ []) 5 80
+    ∷ object "0" (bitmap ++ flag 2 ∷ []) 11 80
+    ∷ object "4" (bitmap ++ flag 255 ∷ []) 11 80
     ∷ object "1" bitmap 2 80
     ∷ object "0" (bitmap ++ flag 0 ∷ []) 2 81
     ∷ object "1" (bitmap ++ flag 0 ∷ flag 1 ∷ []) 11 81
-    ∷ object "1" (bitmap ++ flag 0 ∷ flag 2 ∷ []) 5 81
+    ∷ object "1" (bitmap ++ flag 0 ∷ flag 2 ∷ []) 11 81
     ∷ object "4" (bitmap ++ flag 0 ∷ string "" ∷ flag 1 ∷ []) 11 85
     -- descriptions, from 1.2 on
     ∷ object "2" (bitmap ++ flag 0 ∷ []) 2 81
@@ -187,8 +187,8 @@ texts =
     ∷ object "2" (char "T" ∷ string "" ∷ byte 1 ∷ byte 2 ∷ []) 6 30
     ∷ object "0" (char "T" ∷ string "" ∷ byte 1 ∷ byte 1 ∷ int 0xFFFF_FFFF ∷ []) 6 31
     ∷ object "4" (char "T" ∷ string "" ∷ byte 1 ∷ byte 1 ∷ int 0x8000_0000 ∷ []) 6 31
-    ∷ object "1" (text ++ flag 2 ∷ []) 5 83
-    ∷ object "4" (text ++ flag 200 ∷ []) 5 83
+    ∷ object "1" (text ++ flag 2 ∷ []) 2 84
+    ∷ object "4" (text ++ flag 200 ∷ []) 2 84
     -- LaTeX fields: four strings, horizontal, vertical, alternative
     ∷ object "1" (text ++ flag 1 ∷ times 4 (string "" ∷ []) ++ byte 3 ∷ []) 6 100
     ∷ object "4" (text ++ flag 1 ∷ times 4 (string "" ∷ []) ++ byte 2 ∷ byte 4 ∷ []) 6 101

@@ -17,10 +17,20 @@ pass-file-requires : tie.Need-pass-file-requires
 pass-file-requires c κs = search needs
 
 cast-counted : tie.Need-cast-counted
-cast-counted c = omega (arith, judged-refused (c .before .before .before .before .pass-file .ensures) (c .before .if1 .taken) .small)
+cast-counted c =
+    let at-if1 = c .before in
+    let at-pass-file = at-if1 .before .before .before in
+    let at-shared-slice-known = at-pass-file .before .before .before .before .before in
+    let below = known-below w8 (at-shared-slice-known .before .args .file .now) (at-shared-slice-known .shared-slice-known .given) in
+    omega (arith, judged-refused (at-pass-file .pass-file .ensures) below (at-if1 .if1 .taken) .small)
 
 counted-requires : tie.Need-counted-requires
-counted-requires c κs = (judged-refused (c .before .before .before .before .pass-file .ensures) (c .before .if1 .taken) .near, omega arith, omega arith)
+counted-requires c κs =
+    let at-if1 = c .before in
+    let at-pass-file = at-if1 .before .before .before in
+    let at-shared-slice-known = at-pass-file .before .before .before .before .before in
+    let below = known-below w8 (at-shared-slice-known .before .args .file .now) (at-shared-slice-known .shared-slice-known .given) in
+    (judged-refused (at-pass-file .pass-file .ensures) below (at-if1 .if1 .taken) .near, omega arith, omega arith)
 
 returns : tie.Need-returns
 returns c =
@@ -29,7 +39,8 @@ returns c =
     let at-pass-file = at-if1 .before .before .before in
     let at-shared-slice-known = at-pass-file .before .before .before .before .before in
     let at-args = at-shared-slice-known .before in
-    read-refused (at-args .args .file .now) (at-args .args .contents .now) (at-args .args .bodies .now) (known-below w8 (at-args .args .file .now) (at-shared-slice-known .shared-slice-known .given)) (judged-refused (at-pass-file .pass-file .ensures) (at-if1 .if1 .taken)) (c .counted .ensures)
+    let below = known-below w8 (at-args .args .file .now) (at-shared-slice-known .shared-slice-known .given) in
+    read-refused (at-args .args .file .now) (at-args .args .contents .now) (at-args .args .bodies .now) below (judged-refused (at-pass-file .pass-file .ensures) below (at-if1 .if1 .taken)) (c .counted .ensures)
 
 store-counted-requires : tie.Need-store-counted-requires
 store-counted-requires c κs =

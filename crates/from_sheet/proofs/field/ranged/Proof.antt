@@ -47,7 +47,7 @@ returns c =
     let sizes = field-size (at-args .args .size) (at-args .pre .1 .0) in
     let here = there-with (at-args .args .size) refl (at-there .there .ensures) (at-if1 .if1 .taken) (at-get .get .ensures) in
     record {
-      asks = λ k ranged. field-asked (at-args .pre .0) k (ranged .sized) here (sizes .0) (sizes .1) (range-fault way k ranged (at-args .pre .1 .2) (here .small) (at-between .between .ensures)) (at-kept .kept .ensures .0);
+      asks = λ k ranged. field-asked (at-args .pre .0) k (ranged .sized) here (way .source .plain (k .shape) (at-get .get .result) (ranged .plain)) (sizes .0) (sizes .1) (range-fault way k ranged (at-args .pre .1 .2) (here .small) (at-between .between .ensures)) (at-kept .kept .ensures .0);
       small = value-within (at-between .between .ensures) (at-kept .kept .ensures .1) (at-kept .kept .ensures .2);
     }
 

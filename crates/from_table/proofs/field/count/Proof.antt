@@ -4,6 +4,7 @@ use Rattle.ways.specs.StepLaws.{there-with, there-small, field-asked, not-there
 use Rattle.ways.specs.Faults.{own-fault}
 use Rattle.ways.specs.Way.{sourceUnits}
 use Rattle.drawing.specs.Fields as F
+use Rattle.drawing.specs.FlagLaws.{long-plain}
 use native.Mathlib.Omega.{arith}
 use mathlib.Core.Path.{refl, sym, ap}
 use borrow.Author.Needs.{needs}
@@ -45,7 +46,7 @@ returns c =
     let at-there = at-if1 .before in
     let at-pre = at-there .before .before .before in
     let here = there-with 4 refl (at-there .there .ensures) (at-if1 .if1 .taken) (at-get .get .ensures) in
-    record { asks = λ s sized all. field-asked (at-pre .pre) (record { shape = s; fault = F.count (at-pre .args .least) .fault }) sized here (omega arith) (omega arith) (own-fault (record { shape = s; fault = F.count (at-pre .args .least) .fault }) (at-get .get .result) way (omega (arith, all, here .small)) (rw sized (here .small)) (at-count-fault .count-fault .ensures)) (at-kept .kept .ensures .0); small = omega (arith, here .small, at-kept .kept .ensures .1) }
+    record { asks = λ s sized all. field-asked (at-pre .pre) (record { shape = s; fault = F.count (at-pre .args .least) .fault }) sized here (way .source .plain s (at-get .get .result) (long-plain s 4 sized (omega arith))) (omega arith) (omega arith) (own-fault (record { shape = s; fault = F.count (at-pre .args .least) .fault }) (at-get .get .result) way (omega (arith, all, here .small)) (rw sized (here .small)) (at-count-fault .count-fault .ensures)) (at-kept .kept .ensures .0); small = omega (arith, here .small, at-kept .kept .ensures .1) }
 
 cut-requires : tie.Need-cut-requires
 cut-requires c κs = search needs

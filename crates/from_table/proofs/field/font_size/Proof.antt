@@ -44,7 +44,7 @@ returns c =
     let at-there = at-if1 .before in
     let at-pre = at-there .before .before .before in
     let here = there-with 4 refl (at-there .there .ensures) (at-if1 .if1 .taken) (at-get .get .ensures) in
-    field-asked (at-pre .pre) F.fontSize refl here (omega arith) (omega arith) (own-fault F.fontSize (at-get .get .result) way (omega (arith, here .small)) (here .small) (at-size-fault .size-fault .ensures)) (at-kept .kept .ensures .0)
+    field-asked (at-pre .pre) F.fontSize refl here (way .source .plain (F.fontSize .shape) (at-get .get .result) refl) (omega arith) (omega arith) (own-fault F.fontSize (at-get .get .result) way (omega (arith, here .small)) (here .small) (at-size-fault .size-fault .ensures)) (at-kept .kept .ensures .0)
 
 cut-requires : tie.Need-cut-requires
 cut-requires c κs = search needs
