@@ -131,17 +131,3 @@ chars-run (suc n) left K us =
 
 pub chars-goes : {R : Type 0} (n : ℕ) (K : Script R) (us : List ℕ) → Goes (script (chars n .format) (λ cs. K)) (script (repeat n (field (anyOf 2)) .format) (λ cs. K)) us us 0
 chars-goes n K us = record { same = λ more. chars-run n n K (us ++ more) ∙ sym (plus-zero (tallied (script (repeat n (field (anyOf 2)) .format) (λ cs. K)) (us ++ more))) }
-
--- Floats and then one more, where there are any, are one run.
-pub dashes-run : {A : Type 0} (z : A) (f : Layout A) (n : ℕ) (K : Script (Unit {0})) → (repeat n f ▸ λ ds. when (ltb 0 (length ds)) f z) ⟫ K ≡ repeat (cond (eqb n 0) 0 (n + 1)) f ⟫ K
-dashes-run z f zero K = refl
-dashes-run {A} z f (suc n) K =
-    ap (λ k. script (f .format) k) (fun-ext (λ a. tail n (λ as′. a ∷ as′) a (λ as′. lt-ltb 0 (length (a ∷ as′)) (omega arith))))
-    ∙ ap (λ m. repeat m f ⟫ K) (sym (add-one (suc n)))
-    ∙ ap (λ t. repeat (cond t 0 (suc n + 1)) f ⟫ K) (sym (ne-eqb (suc n) 0 (λ z. absurd (omega arith))))
-  where
-    tail : (n : ℕ) (g : List A → List A) (a : A) → ((as′ : List A) → ltb 0 (length (g as′)) ≡ true)
-        → scriptMany (λ t k. script (f .format) k) (λ s a. s) n (tt {0}) (λ as′. when (ltb 0 (length (g as′))) f z ⟫ K)
-        ≡ scriptMany (λ t k. script (f .format) k) (λ s a. s) (suc n) (tt {0}) (λ as′. K)
-    tail zero g a h = ap (λ t. when t f z ⟫ K) (h [])
-    tail (suc n) g a h = ap (λ k. script (f .format) k) (fun-ext (λ b. tail n (λ as′. g (b ∷ as′)) a (λ as′. h (b ∷ as′))))

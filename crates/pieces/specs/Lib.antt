@@ -7,3 +7,4 @@ pub mod PartLaws
 pub mod FieldLaws
 pub mod GroupLaws
 pub mod LeafLaws
+pub mod OutlineLaws

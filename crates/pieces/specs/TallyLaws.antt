@@ -2,13 +2,13 @@
 use mathlib.Core.Path.{_≡_, refl, sym, ap, _∙_, subst}
 use mathlib.Core.Logic.{_⊎_, inl, inr}
 use mathlib.Core.Option.{Option, none, some}
-use Prim.Native.Nat.{ℕ, zero, suc, _+_, _-_, _<_, _≤_}
+use Prim.Native.Nat.{ℕ, zero, suc, _+_, _-_, _/_, _<_, _≤_}
 use native.Mathlib.Nat as Nat
 use native.Mathlib.Omega.{arith}
 use mathlib.Core.List.{List, [], _∷_, _++_, append-assoc}
 use lib.ListN.{length, drop, length-append, length-drop}
 use lib.Seq.{drop-at, drop-drop}
-use Rattle.format.specs.Kind.{Kind}
+use Rattle.format.specs.Kind.{Kind, Shape, size}
 use Rattle.format.specs.Codec.{Outcome, found, refused, andThen}
 use Rattle.format.specs.FixedCodec.{Fixed}
 use Rattle.format.specs.FixedReading.{fixed, splitAt, Verdict, value, fault, judge, conclude, readCut}
@@ -151,3 +151,66 @@ tallied-followed {A} {R} (ask k next) then us = by (bytes .read k us) (λ v rest
         → andThen o (λ v rest. plus wide (tallied (followed (next v) then) rest)) ≡ andThen (andThen o (λ v rest. plus wide (tallied (next v) rest))) (λ t rest. plus (t .1) (on (t .0) rest))
     by (found v rest) h = ap (plus wide) (h v rest) ∙ andThen-plus wide (tallied (next v) rest) on
     by (refused n place) h = refl
+
+-- ---- what is taken
+
+-- A script that asks for a field.
+abbrev pub Asks : {R : Type 0} → Script R → Type 0
+Asks (end r) = ⊥
+Asks (ask k next) = 0 < byteFields .width (k .shape)
+
+few-words : (s : Shape) → wordFields .width s ≤ byteFields .width s
+few-words s = few (size s)
+  where
+    few : (n : ℕ) → (n + 3) / 4 ≤ n
+    few zero = omega arith
+    few (suc n) = omega arith
+
+-- What is found leaves no more than there was, and its words are no more than the bytes taken.
+pub found-shorter : {R : Type 0} (s : Script R) (us : List ℕ) (t : R × ℕ) (rest : List ℕ) → tallied s us ≡ found t rest → length rest + t .1 ≤ length us
+found-shorter {R} (end r) us t rest e =
+    let same : us ≡ rest = cc in
+    let pair : (r, 0) ≡ t = cc in
+    let none-more : 0 ≡ t .1 = ap (λ (t : R × ℕ). t .1) pair in
+    let long : length us ≡ length rest = ap length same in
+    omega arith
+found-shorter {R} (ask k next) us t rest e = by (bytes .read k us) (read-placed byteFields k us) e (λ v l t′ h. found-shorter (next v) l t′ rest h)
+  where
+    wide : ℕ
+    wide = wordFields .width (k .shape)
+
+    counted : (v : ℕ) (l : List ℕ) (o : Outcome (R × ℕ)) → tallied (next v) l ≡ o → plus wide o ≡ found t rest → byteFields .width (k .shape) ≤ length us → length l ≡ length us - byteFields .width (k .shape)
+        → ((t′ : R × ℕ) → tallied (next v) l ≡ found t′ rest → length rest + t′ .1 ≤ length l) → length rest + t .1 ≤ length us
+    counted v l (found t′ rest′) h q there long step =
+        let same : rest′ ≡ rest = cc in
+        let pair : (t′ .0, wide + t′ .1) ≡ t = cc in
+        let words : wide + t′ .1 ≡ t .1 = ap (λ (t : R × ℕ). t .1) pair in
+        let less = step t′ (h ∙ ap (λ l. found t′ l) same) in
+        let few : wide ≤ byteFields .width (k .shape) = few-words (k .shape) in
+        omega arith
+    counted v l (refused n place) h q there long step = let z : _≡_ {A = ℕ} 0 1 = cc in absurd (omega arith)
+
+    by : (o : Outcome ℕ) → Placed byteFields k us o → andThen o (λ v l. plus wide (tallied (next v) l)) ≡ found t rest
+        → ((v : ℕ) (l : List ℕ) (t′ : R × ℕ) → tallied (next v) l ≡ found t′ rest → length rest + t′ .1 ≤ length l) → length rest + t .1 ≤ length us
+    by (found v l) placed q step = counted v l (tallied (next v) l) refl q (placed .0) (ap length (placed .1) ∙ length-drop (byteFields .width (k .shape)) us) (step v l)
+    by (refused n place) placed q step = let z : _≡_ {A = ℕ} 0 1 = cc in absurd (omega arith)
+
+-- A script that asks for a field takes a byte.
+pub asks-takes : {R : Type 0} (s : Script R) → Asks s → (us : List ℕ) (t : R × ℕ) (rest : List ℕ) → tallied s us ≡ found t rest → length rest < length us
+asks-takes (end r) asks us t rest e = absurd asks
+asks-takes {R} (ask k next) asks us t rest e = by (bytes .read k us) (read-placed byteFields k us) e
+  where
+    counted : (v : ℕ) (l : List ℕ) (o : Outcome (R × ℕ)) → tallied (next v) l ≡ o → plus (wordFields .width (k .shape)) o ≡ found t rest → length rest ≤ length l
+    counted v l (found t′ rest′) h q =
+        let same : rest′ ≡ rest = cc in
+        let less = found-shorter (next v) l t′ rest (h ∙ ap (λ l. found t′ l) same) in
+        omega arith
+    counted v l (refused n place) h q = let z : _≡_ {A = ℕ} 0 1 = cc in absurd (omega arith)
+
+    by : (o : Outcome ℕ) → Placed byteFields k us o → andThen o (λ v l. plus (wordFields .width (k .shape)) (tallied (next v) l)) ≡ found t rest → length rest < length us
+    by (found v l) placed q =
+        let long : length l ≡ length us - byteFields .width (k .shape) = ap length (placed .1) ∙ length-drop (byteFields .width (k .shape)) us in
+        let there = placed .0 in
+        let less = counted v l (tallied (next v) l) refl q in
+        omega arith
+    by (refused n place) placed q = let z : _≡_ {A = ℕ} 0 1 = cc in absurd (omega arith)
