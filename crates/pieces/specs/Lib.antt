@@ -8,3 +8,9 @@ pub mod FieldLaws
 pub mod GroupLaws
 pub mod LeafLaws
 pub mod OutlineLaws
+pub mod BoundLaws
+pub mod PartBounds
+pub mod CountLaws
+pub mod PassingLaws
+pub mod Verdict
+pub mod VerdictLaws
