@@ -123,7 +123,7 @@ module _ (K : Script (Unit {0})) where
 
 module _ (v : ℕ) (s : Inside) where
   -- below 1.1, and from there on
-  pub arrow-path : v < 1 → path v ⟫ endOn v ≡ inside v (withParts s 588548245537)
+  pub arrow-path : v < 1 → path v ⟫ endOn v ≡ inside v (withParts s 104776735651)
   unfolding inside partsOn partThen
   arrow-path old =
       path-apart (endOn v) v
@@ -131,7 +131,7 @@ module _ (v : ℕ) (s : Inside) where
       (line-apart (outline v ⟫ endOn v) v
       ∙ ap (λ t. field F.float ⟫ dashes ⟫ lineEnd ⟫ markers v ⟫ cond t (markers v ⟫ markers v ⟫ outline v ⟫ endOn v) (markers v ⟫ outline v ⟫ endOn v)) (lt-leb 1 v old))
 
-  pub marked-path : 1 ≤ v → path v ⟫ endOn v ≡ inside v (withParts s 18833569318945)
+  pub marked-path : 1 ≤ v → path v ⟫ endOn v ≡ inside v (withParts s 2619425173151)
   unfolding inside partsOn partThen
   marked-path new =
       path-apart (endOn v) v
@@ -139,32 +139,32 @@ module _ (v : ℕ) (s : Inside) where
       (line-apart (outline v ⟫ endOn v) v
       ∙ ap (λ t. field F.float ⟫ dashes ⟫ lineEnd ⟫ markers v ⟫ cond t (markers v ⟫ markers v ⟫ outline v ⟫ endOn v) (markers v ⟫ outline v ⟫ endOn v)) (le-leb 1 v new))
 
-  pub text-parts : text v ⟫ endOn v ≡ inside v (withParts s 14604)
+  pub text-parts : text v ⟫ endOn v ≡ inside v (withParts s 8962)
   unfolding inside partsOn partThen
   text-parts = text-apart (endOn v) v ∙ style-apart (paint v ⟫ string 1 ⟫ endOn v)
 
-  pub along-parts : textPath v ⟫ endOn v ≡ inside v (withParts s 500097)
+  pub along-parts : textPath v ⟫ endOn v ≡ inside v (withParts s 239676)
   unfolding inside partsOn partThen
   along-parts = along-apart (endOn v) v ∙ ap (λ X. paint v ⟫ X) (style-apart (string 1 ⟫ outline v ⟫ endOn v))
 
-  pub bitmap-parts : bitmap ⟫ endOn v ≡ inside v (withParts s 525)
+  pub bitmap-parts : bitmap ⟫ endOn v ≡ inside v (withParts s 413)
   unfolding inside partsOn partThen
   bitmap-parts = bitmap-apart (endOn v)
 
   -- behind the flags
-  pub text-flag : ifFlag latex ⟫ paint v ⟫ string 1 ⟫ endOn v ≡ ask F.flag (λ f. cond (eqb f 1) (inside v (withParts s 26836442952076)) (inside v (withParts s 24993)))
+  pub text-flag : ifFlag latex ⟫ paint v ⟫ string 1 ⟫ endOn v ≡ ask F.flag (λ f. cond (eqb f 1) (inside v (withParts s 3741820507812)) (inside v (withParts s 15326)))
   unfolding inside partsOn partThen
   text-flag =
       if-flag (paint v ⟫ string 1 ⟫ endOn v) latex
       ∙ ap (λ X. ask F.flag (λ f. cond (eqb f 1) X (paint v ⟫ string 1 ⟫ endOn v))) (latex-apart (paint v ⟫ string 1 ⟫ endOn v))
 
-  pub along-flag : ifFlag latex ⟫ string 1 ⟫ outline v ⟫ endOn v ≡ ask F.flag (λ f. cond (eqb f 1) (inside v (withParts s 598487740812)) (inside v (withParts s 557)))
+  pub along-flag : ifFlag latex ⟫ string 1 ⟫ outline v ⟫ endOn v ≡ ask F.flag (λ f. cond (eqb f 1) (inside v (withParts s 107054882812)) (inside v (withParts s 438)))
   unfolding inside partsOn partThen
   along-flag =
       if-flag (string 1 ⟫ outline v ⟫ endOn v) latex
       ∙ ap (λ X. ask F.flag (λ f. cond (eqb f 1) X (string 1 ⟫ outline v ⟫ endOn v))) (latex-apart (string 1 ⟫ outline v ⟫ endOn v))
 
-  pub links-flag : ifFlag bitmapLatex ⟫ transformation ⟫ endOn v ≡ ask F.flag (λ f. cond (eqb f 1) (inside v (withParts s 796044)) (inside v (withParts s 777)))
+  pub links-flag : ifFlag bitmapLatex ⟫ transformation ⟫ endOn v ≡ ask F.flag (λ f. cond (eqb f 1) (inside v (withParts s 380937)) (inside v (withParts s 609)))
   unfolding inside partsOn partThen
   links-flag =
       if-flag (transformation ⟫ endOn v) bitmapLatex

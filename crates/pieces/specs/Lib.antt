@@ -14,3 +14,6 @@ pub mod CountLaws
 pub mod PassingLaws
 pub mod Verdict
 pub mod VerdictLaws
+pub mod Session
+pub mod SessionPromises
+pub mod SessionLaws

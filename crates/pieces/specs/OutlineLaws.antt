@@ -44,13 +44,13 @@ counted-apart v K = refl
 
 -- Segments from a part on, whose number of segments is one more than is kept.
 segments-on : (v : ℕ) (s : Inside) (part n : ℕ) (doubles : ℕ) (all : ℕ → Script (Unit {0}))
-    → all 0 ≡ endOn v → ((m : ℕ) → all (suc m) ≡ partThen v m (s .x) (s .y) part done) → ((m : ℕ) → partsOn v m (s .x) (s .y) 13 part ≡ partThen v m (s .x) (s .y) part done)
+    → all 0 ≡ endOn v → ((m : ℕ) → all (suc m) ≡ partThen v m (s .x) (s .y) part done) → ((m : ℕ) → partsOn v m (s .x) (s .y) 14 part ≡ partThen v m (s .x) (s .y) part done)
     → inside v (segmentsFrom s part n doubles) ≡ repeat doubles (field F.double) ⟫ all n
 unfolding inside partsOn partThen
 segments-on v s part zero doubles all none-left more is = ap (λ X. repeat doubles (field F.double) ⟫ X) (sym none-left)
 segments-on v s part (suc m) doubles all none-left more is =
     let less : suc m - 1 ≡ m = omega arith in
-    ap₂ (λ p k. repeat doubles (field F.double) ⟫ partsOn v k (s .x) (s .y) 13 p) (ap (λ t. cond t 24 part) (ne-eqb (suc m) 0 (λ z. absurd (omega arith)))) less
+    ap₂ (λ p k. repeat doubles (field F.double) ⟫ partsOn v k (s .x) (s .y) 14 p) (ap (λ t. cond t 24 part) (ne-eqb (suc m) 0 (λ z. absurd (omega arith)))) less
     ∙ ap (λ X. repeat doubles (field F.double) ⟫ X) (is m ∙ sym (more m))
 
 module _ (v : ℕ) (s : Inside) where
@@ -96,23 +96,23 @@ module _ (v : ℕ) (s : Inside) where
       none-before n = omega arith
 
   -- A start of its own, free or joined, comes before the doubles, of which the last two are the end.
-  pub first-letter : segmentsOf true (suc (s .segments)) none ⟫ endOn v ≡ ask segmentLetter (λ c. inside v (withParts s (cond (straight c) 709 22725)))
+  pub first-letter : segmentsOf true (suc (s .segments)) none ⟫ endOn v ≡ ask segmentLetter (λ c. inside v (withParts s (cond (straight c) 555 13905)))
   unfolding inside partsOn partThen
   first-letter =
       own-segment (λ e. segmentsOf true (s .segments) (some e) ⟫ endOn v) none
       ∙ ap (ask segmentLetter) (fun-ext (λ c. by (straight c)))
     where
-      by : (b : Bool) → point ⟫ doublesThen (cond b 2 6) (λ e. segmentsOf true (s .segments) (some e) ⟫ endOn v) ≡ inside v (withParts s (cond b 709 22725))
+      by : (b : Bool) → point ⟫ doublesThen (cond b 2 6) (λ e. segmentsOf true (s .segments) (some e) ⟫ endOn v) ≡ inside v (withParts s (cond b 555 13905))
       by true = refl
       by false = refl
 
-  pub joined-letter : joinedOn v (suc (s .segments)) (s .x) (s .y) ≡ ask segmentLetter (λ c. inside v (withParts s (cond (straight c) 711 22727)))
+  pub joined-letter : joinedOn v (suc (s .segments)) (s .x) (s .y) ≡ ask segmentLetter (λ c. inside v (withParts s (cond (straight c) 557 13907)))
   unfolding inside partsOn partThen
   joined-letter =
       own-segment (λ e. segmentsOf true (s .segments) (some e) ⟫ endOn v) (some (record { x = s .x; y = s .y }))
       ∙ ap (ask segmentLetter) (fun-ext (λ c. by (straight c)))
     where
-      by : (b : Bool) → joinedPoint (some (record { x = s .x; y = s .y })) ⟫ doublesThen (cond b 2 6) (λ e. segmentsOf true (s .segments) (some e) ⟫ endOn v) ≡ inside v (withParts s (cond b 711 22727))
+      by : (b : Bool) → joinedPoint (some (record { x = s .x; y = s .y })) ⟫ doublesThen (cond b 2 6) (λ e. segmentsOf true (s .segments) (some e) ⟫ endOn v) ≡ inside v (withParts s (cond b 557 13907))
       by true = refl
       by false = refl
 

@@ -27,33 +27,33 @@ use Rattle.pieces.specs.Parts.{anyOf, endOn, joinedOn, partThen, partsOn
 
 module _ (v n x y : ℕ) where
   -- A number of few digits is all of its digits.
-  digits-enough : (digits p : ℕ) → p < 32 ^ digits → partsOn v n x y (suc digits) p ≡ partsOn v n x y digits p
+  digits-enough : (digits p : ℕ) → p < 25 ^ digits → partsOn v n x y (suc digits) p ≡ partsOn v n x y digits p
   unfolding partsOn partThen
-  digits-enough zero p few = let z : p ≡ 0 = omega arith in ap (λ p. partThen v n x y (p % 32) done) z
+  digits-enough zero p few = let z : p ≡ 0 = omega arith in ap (λ p. partThen v n x y (p % 25) done) z
   digits-enough (suc digits) p few =
-      let power = Nat.pow-succ' 32 digits in
-      let less : p / 32 < 32 ^ digits = omega (arith, power) in
-      ap (partThen v n x y (p % 32)) (digits-enough digits (p / 32) less)
+      let power = Nat.pow-succ' 25 digits in
+      let less : p / 25 < 25 ^ digits = omega (arith, power) in
+      ap (partThen v n x y (p % 25)) (digits-enough digits (p / 25) less)
 
-  split : (digits p : ℕ) → partsOn v n x y (suc digits) p ≡ partThen v n x y (p % 32) (partsOn v n x y digits (p / 32))
+  split : (digits p : ℕ) → partsOn v n x y (suc digits) p ≡ partThen v n x y (p % 25) (partsOn v n x y digits (p / 25))
   unfolding partsOn
   split digits p = refl
 
-  first-digit : (p : ℕ) → p < 2 ^ 64 → partsOn v n x y 13 p ≡ partThen v n x y (p % 32) (partsOn v n x y 13 (p / 32))
-  first-digit p small = split 12 p ∙ ap (partThen v n x y (p % 32)) (sym (digits-enough 12 (p / 32) (omega arith)))
+  first-digit : (p : ℕ) → p < 2 ^ 64 → partsOn v n x y 14 p ≡ partThen v n x y (p % 25) (partsOn v n x y 14 (p / 25))
+  first-digit p small = split 13 p ∙ ap (partThen v n x y (p % 25)) (sym (digits-enough 13 (p / 25) (omega arith)))
 
 -- The same with other parts to come, and no run before them.
 abbrev pub withParts : Inside → ℕ → Inside
 withParts s p = record { parts = p; run = 0; width = s .width; segments = s .segments; x = s .x; y = s .y }
 
 -- The next part is that of the lowest digit.
-pub next-part : (v : ℕ) (s : Inside) (c : ℕ) → s .run ≡ 0 → s .parts % 32 ≡ c → s .parts < 2 ^ 64
-    → inside v s ≡ partThen v (s .segments) (s .x) (s .y) c (inside v (withParts s (s .parts / 32)))
+pub next-part : (v : ℕ) (s : Inside) (c : ℕ) → s .run ≡ 0 → s .parts % 25 ≡ c → s .parts < 2 ^ 64
+    → inside v s ≡ partThen v (s .segments) (s .x) (s .y) c (inside v (withParts s (s .parts / 25)))
 unfolding inside
 next-part v s c no-run digit small =
-    ap (λ n. repeat n (field (anyOf (s .width))) ⟫ partsOn v (s .segments) (s .x) (s .y) 13 (s .parts)) no-run
+    ap (λ n. repeat n (field (anyOf (s .width))) ⟫ partsOn v (s .segments) (s .x) (s .y) 14 (s .parts)) no-run
     ∙ first-digit v (s .segments) (s .x) (s .y) (s .parts) small
-    ∙ ap (λ c. partThen v (s .segments) (s .x) (s .y) c (partsOn v (s .segments) (s .x) (s .y) 13 (s .parts / 32))) digit
+    ∙ ap (λ c. partThen v (s .segments) (s .x) (s .y) c (partsOn v (s .segments) (s .x) (s .y) 14 (s .parts / 25))) digit
 
 -- ---- what each digit stands for
 

@@ -80,11 +80,11 @@ partThen v n x y c K =
 -- The parts of a number, so many digits of it at most.
 unfoldable pub partsOn : (version left x y digits : ℕ) → ℕ → Script (Unit {0})
 partsOn v n x y zero p = done
-partsOn v n x y (suc digits) p = partThen v n x y (p % 32) (partsOn v n x y digits (p / 32))
+partsOn v n x y (suc digits) p = partThen v n x y (p % 25) (partsOn v n x y digits (p / 25))
 
 -- What is left of the object that is open.
 unfoldable pub inside : (version : ℕ) → Inside → Script (Unit {0})
-inside v s = repeat (s .run) (field (anyOf (s .width))) ⟫ partsOn v (s .segments) (s .x) (s .y) 13 (s .parts)
+inside v s = repeat (s .run) (field (anyOf (s .width))) ⟫ partsOn v (s .segments) (s .x) (s .y) 14 (s .parts)
 
 -- ---- around it
 

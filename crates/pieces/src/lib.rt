@@ -2,7 +2,7 @@
 
 // What is left of the object that is open.
 pub struct Inside {
-    // its parts, each a digit of base 32, the next one lowest
+    // its parts, each a digit of base 25, the next one lowest
     pub parts: u64,
     // before them, so many fields of so many bytes, of any value
     pub run: u64,
