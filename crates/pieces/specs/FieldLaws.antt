@@ -26,6 +26,7 @@ use Rattle.drawing.specs.Codecs.{byteFields, wordFields}
 use Rattle.drawing.specs.Reading.{bytes}
 use Rattle.drawing.specs.Fields as F
 use Rattle.drawing.specs.String.{chars}
+use Rattle.ways.specs.Runs.{Any}
 use Rattle.pieces.specs.Tally.{plus, tallied}
 use Rattle.pieces.specs.TallyLaws.{plus-zero, Under}
 use Rattle.pieces.specs.Going.{room, Goes, Stops, goes-nowhere, goes-on, goes-is, goes-same, stops-same, part-goes, part-stops, led}
@@ -54,12 +55,6 @@ module _ {A R : Type 0} (L : Layout A) (K : Script R) {us : List ℕ} where
   layout-stops under is = stops-same (led L K) (part-stops (L ⟫ done) (λ u. K) under is)
 
 -- ---- runs
-
--- A kind of so many bytes, of which any value is allowed.
-pub record Any (w : ℕ) (k : Kind) : Type 0 where
-  pub sized : size (k .shape) ≡ w
-  pub all : values (k .shape) ≡ 256 ^ w
-  pub faultless : (v : ℕ) → k .fault v ≡ 0
 
 read-any : (w : ℕ) (k : Kind) → Any w k → (us : List ℕ) → Below 256 us → w ≤ length us → (v : ℕ) × (bytes .read k us ≡ found v (drop w us))
 read-any w k any us below there =

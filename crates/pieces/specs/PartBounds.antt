@@ -66,8 +66,32 @@ pub marker-body-44 : (v id : ℕ) → Most 44 (markerBody v id)
 marker-body-44 v id =
     record {
       within = (
-        (4, 40, omega arith, omega arith, λ s. (1, 39, omega arith, omega arith, λ r. (1, 38, omega arith, omega arith, λ b. (5, 33, omega arith, (1, 4, omega arith, omega arith, λ f. (omega arith, tt)), λ a.
-        (22, 11, omega arith, plain-paint-22 v .within, λ p. (1, 10, omega arith, omega arith, λ o. ((5, 5, omega arith, (1, 4, omega arith, omega arith, λ f. (omega arith, tt)), λ x. (1, 4, omega arith, omega arith, λ f. (omega arith, tt))), tt))))))),
+        (
+          4,
+          40,
+          omega arith,
+          omega arith,
+          λ s. (
+            1,
+            39,
+            omega arith,
+            omega arith,
+            λ r. (
+              1,
+              38,
+              omega arith,
+              omega arith,
+              λ b. (
+                5,
+                33,
+                omega arith,
+                (1, 4, omega arith, omega arith, λ f. (omega arith, tt)),
+                λ a.
+                    (22, 11, omega arith, plain-paint-22 v .within, λ p. (1, 10, omega arith, omega arith, λ o. ((5, 5, omega arith, (1, 4, omega arith, omega arith, λ f. (omega arith, tt)), λ x. (1, 4, omega arith, omega arith, λ f. (omega arith, tt))), tt))),
+              ),
+            ),
+          ),
+        ),
         (4, 40, omega arith, omega arith, λ s. (1, 39, omega arith, omega arith, λ d. omega arith)),
       );
     }
@@ -87,8 +111,38 @@ paper-38 v = record { within = (1, 37, omega arith, omega arith, λ s. ((8, 29, 
 pub all-38 : (v : ℕ) → Most 38 (allSettings v)
 all-38 v =
     record {
-      within = (1, 37, omega arith, omega arith, λ g. (1, 36, omega arith, omega arith, λ l. (1, 35, omega arith, omega arith, λ r. (4, 31, omega arith, omega arith, λ t. (4, 27, omega arith, omega arith, λ n.
-      (18, 9, omega arith, paper-18 v .within, λ p. (1, 8, omega arith, omega arith, λ u. (4, 4, omega arith, omega arith, λ m. omega arith))))))));
+      within = (
+        1,
+        37,
+        omega arith,
+        omega arith,
+        λ g. (
+          1,
+          36,
+          omega arith,
+          omega arith,
+          λ l. (
+            1,
+            35,
+            omega arith,
+            omega arith,
+            λ r. (
+              4,
+              31,
+              omega arith,
+              omega arith,
+              λ t. (
+                4,
+                27,
+                omega arith,
+                omega arith,
+                λ n.
+                    (18, 9, omega arith, paper-18 v .within, λ p. (1, 8, omega arith, omega arith, λ u. (4, 4, omega arith, omega arith, λ m. omega arith))),
+              ),
+            ),
+          ),
+        ),
+      );
     }
 
 pub settings-39 : (v : ℕ) → Most 39 (settings v)
@@ -117,3 +171,6 @@ joined-16 x y = record { within = (8, 8, omega arith, omega arith, λ a. omega a
 
 pub doubles-most : (n : ℕ) → Most (n * 8) (repeat n (field F.double))
 doubles-most n = record { within = (8, omega arith, λ t. omega arith) }
+
+pub float-4 : Most 4 (field F.float)
+float-4 = record { within = omega arith }

@@ -153,4 +153,3 @@ module _ (v n x y : ℕ) (K : Script (Unit {0})) where
   pub is-end : partThen v n x y 24 K ≡ endOn v
   unfolding partThen
   is-end = refl
-

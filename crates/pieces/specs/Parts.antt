@@ -51,31 +51,103 @@ joinedOn v n x y = segmentsOf true n (some (record { x = x; y = y })) ⟫ endOn 
 -- A part with this digit, and what is left behind it. From LATEX on a part is the last of its number: it tells what is left itself.
 unfoldable pub partThen : (version left x y digit : ℕ) → Script (Unit {0}) → Script (Unit {0})
 partThen v n x y c K =
-    elim (eqb c 1) [ true ↦ paint v ⟫ K | false ↦
-    elim (eqb c 2) [ true ↦ field F.float ⟫ K | false ↦
-    elim (eqb c 3) [ true ↦ (field (F.byteIn 0 2) & join & field (F.byteIn 0 1)) ⟫ K | false ↦
-    elim (eqb c 4) [ true ↦ markers v ⟫ K | false ↦
-    elim (eqb c 5) [ true ↦ repeat 2 (field F.double) ⟫ K | false ↦
-    elim (eqb c 6) [ true ↦ repeat 4 (field F.double) ⟫ K | false ↦
-    elim (eqb c 7) [ true ↦ (field (F.joined x) & field (F.joined y)) ⟫ K | false ↦
-    elim (eqb c 8) [ true ↦ face ⟫ K | false ↦
-    elim (eqb c 9) [ true ↦ transformation ⟫ K | false ↦
-    elim (eqb c 10) [ true ↦ (field (F.byteIn 0 2) & field (F.byteIn 0 3)) ⟫ K | false ↦
-    elim (eqb c 11) [ true ↦ dashes ⟫ K | false ↦
-    elim (eqb c 12) [ true ↦ string 0 ⟫ K | false ↦
-    elim (eqb c 13) [ true ↦ string 1 ⟫ K | false ↦
-    elim (eqb c 14) [ true ↦ ifFlag latex ⟫ paint v ⟫ string 1 ⟫ endOn v | false ↦
-    elim (eqb c 15) [ true ↦ ifFlag latex ⟫ string 1 ⟫ outline v ⟫ endOn v | false ↦
-    elim (eqb c 16) [ true ↦ ifFlag bitmapLatex ⟫ transformation ⟫ endOn v | false ↦
-    elim (eqb c 17) [ true ↦ outline v ⟫ endOn v | false ↦
-    elim (eqb c 18) [ true ↦ countedSegments v ⟫ endOn v | false ↦
-    elim (eqb c 19) [ true ↦ segmentsOf false (suc n) none ⟫ endOn v | false ↦
-    elim (eqb c 20) [ true ↦ segmentsOf true (suc n) none ⟫ endOn v | false ↦
-    elim (eqb c 21) [ true ↦ joinedOn v (suc n) x y | false ↦
-    elim (eqb c 22) [ true ↦ ask F.double (λ x′. ask F.double (λ y′. joinedOn v n x′ y′)) | false ↦
-    elim (eqb c 23) [ true ↦ ask F.double (λ y′. joinedOn v n x y′) | false ↦
-    elim (eqb c 24) [ true ↦ endOn v | false ↦
-    done ] ] ] ] ] ] ] ] ] ] ] ] ] ] ] ] ] ] ] ] ] ] ] ]
+    elim (eqb c 1) [
+      | true ↦ paint v ⟫ K
+      | false ↦
+          elim (eqb c 2) [
+            | true ↦ field F.float ⟫ K
+            | false ↦
+                elim (eqb c 3) [
+                  | true ↦ (field (F.byteIn 0 2) & join & field (F.byteIn 0 1)) ⟫ K
+                  | false ↦
+                      elim (eqb c 4) [
+                        | true ↦ markers v ⟫ K
+                        | false ↦
+                            elim (eqb c 5) [
+                              | true ↦ repeat 2 (field F.double) ⟫ K
+                              | false ↦
+                                  elim (eqb c 6) [
+                                    | true ↦ repeat 4 (field F.double) ⟫ K
+                                    | false ↦
+                                        elim (eqb c 7) [
+                                          | true ↦ (field (F.joined x) & field (F.joined y)) ⟫ K
+                                          | false ↦
+                                              elim (eqb c 8) [
+                                                | true ↦ face ⟫ K
+                                                | false ↦
+                                                    elim (eqb c 9) [
+                                                      | true ↦ transformation ⟫ K
+                                                      | false ↦
+                                                          elim (eqb c 10) [
+                                                            | true ↦ (field (F.byteIn 0 2) & field (F.byteIn 0 3)) ⟫ K
+                                                            | false ↦
+                                                                elim (eqb c 11) [
+                                                                  | true ↦ dashes ⟫ K
+                                                                  | false ↦
+                                                                      elim (eqb c 12) [
+                                                                        | true ↦ string 0 ⟫ K
+                                                                        | false ↦
+                                                                            elim (eqb c 13) [
+                                                                              | true ↦ string 1 ⟫ K
+                                                                              | false ↦
+                                                                                  elim (eqb c 14) [
+                                                                                    | true ↦ ifFlag latex ⟫ paint v ⟫ string 1 ⟫ endOn v
+                                                                                    | false ↦
+                                                                                        elim (eqb c 15) [
+                                                                                          | true ↦ ifFlag latex ⟫ string 1 ⟫ outline v ⟫ endOn v
+                                                                                          | false ↦
+                                                                                              elim (eqb c 16) [
+                                                                                                | true ↦ ifFlag bitmapLatex ⟫ transformation ⟫ endOn v
+                                                                                                | false ↦
+                                                                                                    elim (eqb c 17) [
+                                                                                                      | true ↦ outline v ⟫ endOn v
+                                                                                                      | false ↦
+                                                                                                          elim (eqb c 18) [
+                                                                                                            | true ↦ countedSegments v ⟫ endOn v
+                                                                                                            | false ↦
+                                                                                                                elim (eqb c 19) [
+                                                                                                                  | true ↦ segmentsOf false (suc n) none ⟫ endOn v
+                                                                                                                  | false ↦
+                                                                                                                      elim (eqb c 20) [
+                                                                                                                        | true ↦ segmentsOf true (suc n) none ⟫ endOn v
+                                                                                                                        | false ↦
+                                                                                                                            elim (eqb c 21) [
+                                                                                                                              | true ↦ joinedOn v (suc n) x y
+                                                                                                                              | false ↦
+                                                                                                                                  elim (eqb c 22) [
+                                                                                                                                    | true ↦ ask F.double (λ x′. ask F.double (λ y′. joinedOn v n x′ y′))
+                                                                                                                                    | false ↦
+                                                                                                                                        elim (eqb c 23) [
+                                                                                                                                          | true ↦ ask F.double (λ y′. joinedOn v n x y′)
+                                                                                                                                          | false ↦
+                                                                                                                                              elim (eqb c 24) [
+                                                                                                                                                | true ↦ endOn v
+                                                                                                                                                | false ↦
+                                                                                                                                                    done
+                                                                                                                                              ]
+                                                                                                                                        ]
+                                                                                                                                  ]
+                                                                                                                            ]
+                                                                                                                      ]
+                                                                                                                ]
+                                                                                                          ]
+                                                                                                    ]
+                                                                                              ]
+                                                                                        ]
+                                                                                  ]
+                                                                            ]
+                                                                      ]
+                                                                ]
+                                                          ]
+                                                    ]
+                                              ]
+                                        ]
+                                  ]
+                            ]
+                      ]
+                ]
+          ]
+    ]
 
 -- The parts of a number, so many digits of it at most.
 unfoldable pub partsOn : (version left x y digits : ℕ) → ℕ → Script (Unit {0})
@@ -116,9 +188,24 @@ pub record Standing : Type 0 where
 -- What is left of a file: the number of its rows comes of it.
 unfoldable pub rest : Standing → Script ℕ
 rest s =
-    elim (eqb (s .stage) 0) [ true ↦ headOn file | false ↦
-    elim (eqb (s .stage) 1) [ true ↦ headOn (constant F.versionLength 3 version-length-only (drawingFrom version)) | false ↦
-    elim (eqb (s .stage) 2) [ true ↦ headOn (drawingFrom version) | false ↦
-    elim (eqb (s .stage) 3) [ true ↦ script (settings (s .version) .format) (λ t. outerOn (s .version)) | false ↦
-    elim (eqb (s .stage) 4) [ true ↦ outerOn (s .version) | false ↦
-    followed (inside (s .version) (s .within)) (λ u. groups (s .version) (s .members) (s .depth) (s .rows)) ] ] ] ] ]
+    elim (eqb (s .stage) 0) [
+      | true ↦ headOn file
+      | false ↦
+          elim (eqb (s .stage) 1) [
+            | true ↦ headOn (constant F.versionLength 3 version-length-only (drawingFrom version))
+            | false ↦
+                elim (eqb (s .stage) 2) [
+                  | true ↦ headOn (drawingFrom version)
+                  | false ↦
+                      elim (eqb (s .stage) 3) [
+                        | true ↦ script (settings (s .version) .format) (λ t. outerOn (s .version))
+                        | false ↦
+                            elim (eqb (s .stage) 4) [
+                              | true ↦ outerOn (s .version)
+                              | false ↦
+                                  followed (inside (s .version) (s .within)) (λ u. groups (s .version) (s .members) (s .depth) (s .rows))
+                            ]
+                      ]
+                ]
+          ]
+    ]

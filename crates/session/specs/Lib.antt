@@ -1,1 +1,5 @@
--- Session.
+-- What the functions of a session promise.
+pub mod Steps
+pub mod Wholes
+pub mod Told
+pub mod Insides

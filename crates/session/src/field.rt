@@ -1,4 +1,4 @@
-// Fields that the reader judges elsewhere: ids, the head's chars, and a double with its value.
+// Fields whose values tell what follows, that the template has no function for: ids, the head's, and a double with its value.
 use drawing::head::MAGIC;
 use drawing::head::VERSION_LAST;
 use drawing::head::VERSION_LENGTH;
@@ -6,46 +6,81 @@ use drawing::head::VERSION_ZERO;
 use drawing::letters::GROUP;
 use drawing::numbers::BAD_CHAR;
 use drawing::numbers::BAD_VERSION;
+use drawing::numbers::CUT;
 use drawing::numbers::NO_JDR;
 use fields::letters::object_fault;
-use format::decode::char_at;
-use format::decode::word_at;
-use format::halves::from_halves;
-use from_file::field::cut;
-use from_file::field::kept;
 use from_file::prims::ahead;
 use from_file::prims::get;
 use from_file::prims::refusal;
 use from_file::prims::there;
+use reader::head::chars_at;
 use ways::FieldPass;
-use ways::Pass;
+ghost use mathlib.Core.Path.{_≡_};
+ghost use Prim.Native.Nat.{ℕ, _+_, _^_, _<_, _≤_};
+ghost use lib.ListN.{length};
+ghost use Rattle.drawing.specs.Fields as F;
+ghost use Rattle.drawing.specs.LeafLayout.{isLeaf};
+ghost use Rattle.ways.specs.Passes.{refusalOf};
+ghost use Rattle.from_file.specs.Lays.{Begins};
+ghost use Rattle.from_file.specs.Way.{way};
+ghost use Rattle.reader.specs.OuterLaws.{outerId};
+ghost use Rattle.session.specs.Told.{Told, toldOf};
 
-pub fn double(src: &[u8], at: usize, to: usize) -> FieldPass {
-    let mut none = [0u32; 0];
-    if there(&*src, at, 8, 2) {
-        return kept(&mut none, at, to, 8, get(&*src, at, 8), 0);
+// A value behind so many bytes and words, or the fault that it is.
+fn told(at: usize, to: usize, bytes: usize, words: usize, value: u64, fault: u32) -> FieldPass
+    requires { ⌜ (at + bytes < 2 ^ 60) × (to + words < 2 ^ 60) ⌝ }
+    ensures { λ r. ⌜ r ≡ toldOf at to bytes words value fault ⌝ }
+{
+    if fault != 0 {
+        return FieldPass {
+            value: 0,
+            pass: refusal(fault, at),
+        };
     }
-    cut(at, to)
+    FieldPass {
+        value: value,
+        pass: ahead(at, to, bytes, words),
+    }
+}
+
+fn cut_here(at: usize) -> FieldPass
+    requires { ⌜ at < 2 ^ 60 ⌝ }
+    ensures { λ r. ⌜ r ≡ record { value = 0; pass = refusalOf way 2 at } ⌝ }
+{
+    FieldPass {
+        value: 0,
+        pass: refusal(CUT, at),
+    }
+}
+
+// A coordinate, with its value.
+pub fn double(src: &[u8], at: usize, to: usize) -> FieldPass
+    requires { ⌜ Begins (now src) at to ⌝ }
+    requires { ⌜ at ≤ length (now src) ⌝ }
+    ensures { λ r. ⌜ Told (Unit {0}) F.double (now (src .entry)) at to r ⌝ }
+{
+    if there(&*src, at, 8, 2) {
+        return told(at, to, 8, 2, get(&*src, at, 8), 0);
+    }
+    cut_here(at)
 }
 
 // An object's id, where a group may nest deeper or not.
-pub fn object_id(src: &[u8], at: usize, to: usize, version: u32, deeper: bool) -> FieldPass {
-    let mut none = [0u32; 0];
+pub fn object_id(src: &[u8], at: usize, to: usize, version: u32, deeper: bool) -> FieldPass
+    requires { ⌜ Begins (now src) at to ⌝ }
+    requires { ⌜ at ≤ length (now src) ⌝ }
+    ensures { λ r. ⌜ Told ℕ (F.objectId (isLeaf version) deeper) (now (src .entry)) at to r ⌝ }
+{
     if there(&*src, at, 2, 1) {
         let letter = get(&*src, at, 2);
-        return kept(
-            &mut none,
-            at,
-            to,
-            2,
-            letter,
-            object_fault(deeper, version, letter),
-        );
+        return told(at, to, 2, 1, letter, object_fault(deeper, version, letter));
     }
-    cut(at, to)
+    cut_here(at)
 }
 
-fn group_fault(letter: u64) -> u32 {
+fn group_fault(letter: u64) -> u32
+    ensures { λ r. ⌜ r ≡ outerId .fault letter ⌝ }
+{
     if letter == GROUP {
         return 0;
     }
@@ -53,59 +88,80 @@ fn group_fault(letter: u64) -> u32 {
 }
 
 // The outer object's id.
-pub fn outer_id(src: &[u8], at: usize, to: usize) -> FieldPass {
-    let mut none = [0u32; 0];
+pub fn outer_id(src: &[u8], at: usize, to: usize) -> FieldPass
+    requires { ⌜ Begins (now src) at to ⌝ }
+    requires { ⌜ at ≤ length (now src) ⌝ }
+    ensures { λ r. ⌜ Told ℕ outerId (now (src .entry)) at to r ⌝ }
+{
     if there(&*src, at, 2, 1) {
         let letter = get(&*src, at, 2);
-        return kept(&mut none, at, to, 2, letter, group_fault(letter));
+        return told(at, to, 2, 1, letter, group_fault(letter));
     }
-    cut(at, to)
+    cut_here(at)
 }
 
-// Three chars as one field, between two numbers.
-fn three_chars(src: &[u8], at: usize, to: usize, low: u64, high: u64, number: u32) -> FieldPass {
-    if there(&*src, at, 6, 2) {
-        let chars = from_halves(char_at(&*src, at), word_at(&*src, at + 2));
-        if chars < low {
-            return FieldPass {
-                value: 0,
-                pass: refusal(number, at),
-            };
-        }
-        if high < chars {
-            return FieldPass {
-                value: 0,
-                pass: refusal(number, at),
-            };
-        }
-        return FieldPass {
-            value: chars,
-            pass: ahead(at, to, 6, 2),
-        };
-    }
-    cut(at, to)
-}
-
-pub fn magic(src: &[u8], at: usize, to: usize) -> FieldPass {
-    three_chars(&*src, at, to, MAGIC, MAGIC, NO_JDR)
-}
-
-pub fn version(src: &[u8], at: usize, to: usize) -> FieldPass {
-    three_chars(&*src, at, to, VERSION_ZERO, VERSION_LAST, BAD_VERSION)
-}
-
-fn length_fault(length: u64) -> u32 {
+fn length_fault(length: u64) -> u32
+    ensures { λ r. ⌜ r ≡ F.versionLength .fault length ⌝ }
+{
     if length == VERSION_LENGTH {
         return 0;
     }
     BAD_VERSION
 }
 
-pub fn version_length(src: &[u8], at: usize, to: usize) -> FieldPass {
-    let mut none = [0u32; 0];
+pub fn version_length(src: &[u8], at: usize, to: usize) -> FieldPass
+    requires { ⌜ Begins (now src) at to ⌝ }
+    requires { ⌜ at ≤ length (now src) ⌝ }
+    ensures { λ r. ⌜ Told ℕ F.versionLength (now (src .entry)) at to r ⌝ }
+{
     if there(&*src, at, 4, 1) {
         let length = get(&*src, at, 4);
-        return kept(&mut none, at, to, 4, length, length_fault(length));
+        return told(at, to, 4, 1, length, length_fault(length));
     }
-    cut(at, to)
+    cut_here(at)
+}
+
+fn magic_fault(chars: u64) -> u32
+    ensures { λ r. ⌜ r ≡ F.magic .fault chars ⌝ }
+{
+    if chars == MAGIC {
+        return 0;
+    }
+    NO_JDR
+}
+
+pub fn magic(src: &[u8], at: usize, to: usize) -> FieldPass
+    requires { ⌜ Begins (now src) at to ⌝ }
+    requires { ⌜ at ≤ length (now src) ⌝ }
+    ensures { λ r. ⌜ Told ℕ F.magic (now (src .entry)) at to r ⌝ }
+{
+    if there(&*src, at, 6, 2) {
+        let chars = chars_at(&*src, at);
+        return told(at, to, 6, 2, chars, magic_fault(chars));
+    }
+    cut_here(at)
+}
+
+fn version_fault(chars: u64) -> u32
+    ensures { λ r. ⌜ r ≡ F.versionChars .fault chars ⌝ }
+{
+    if chars < VERSION_ZERO {
+        return BAD_VERSION;
+    }
+    if VERSION_LAST < chars {
+        return BAD_VERSION;
+    }
+    0
+}
+
+pub fn version_chars(src: &[u8], at: usize, to: usize) -> FieldPass
+    requires { ⌜ Begins (now src) at to ⌝ }
+    requires { ⌜ at ≤ length (now src) ⌝ }
+    ensures { λ r. ⌜ Told ℕ F.versionChars (now (src .entry)) at to r ⌝ }
+{
+    if there(&*src, at, 6, 2) {
+        let chars = chars_at(&*src, at);
+        return told(at, to, 6, 2, chars, version_fault(chars));
+    }
+    cut_here(at)
 }
