@@ -9,10 +9,10 @@ use mathlib.Core.List.{List}
 use lib.Dec.{eqb}
 use lib.ListN.{length, drop, length-drop}
 use lib.Seq.{drop-drop}
-use borrow.Author.Tests.{le-leb, lt-leb}
+use borrow.Author.Tests.{le-leb, lt-leb, ne-eqb}
 use Rattle.format.specs.Digits.{Below}
 use Rattle.format.specs.LeafLaws.{below-drop}
-use Rattle.format.specs.Kind.{Kind, size}
+use Rattle.format.specs.Kind.{Kind, size, char}
 use Rattle.format.specs.Script.{Script, ask}
 use Rattle.format.specs.Layout.{field, repeat}
 use Rattle.format.specs.Pass.{_⟫_, done}
@@ -46,6 +46,10 @@ pub record Next (s : Inside) (part : ℕ) : Type 0 where
   pub no-run : s .run ≡ 0
   pub digit : s .parts % 25 ≡ part
   pub small : s .parts < 2 ^ 64
+
+-- Something is left of the object.
+pub record Opened (s : Inside) : Type 0 where
+  pub more : s .run ≡ 0 → 0 < s .parts % 25
 
 -- The same with so many fields of so many bytes before other parts.
 abbrev pub withRun : Inside → (parts run width : ℕ) → Inside
@@ -226,3 +230,48 @@ module _ (v : ℕ) (s : Inside) {bytes : ℕ} (fielded : Fielded (s .width) byte
         where
           begins : (n : ℕ) → s .run ≡ suc n → inside v s ≡ ask k (λ c. repeat n (field k) ⟫ K)
           begins n e = run-begins v s n e
+
+-- What a step came to, said otherwise.
+pub step-is : {v : ℕ} {s : Inside} {us : List ℕ} {at to : ℕ} {r r′ : InsideStep} → r ≡ r′ → InsideSteps v s us at to r′ → InsideSteps v s us at to r
+step-is {v} {s} {us} {at} {to} is steps = subst (InsideSteps v s us at to) (sym is) steps
+
+-- As many fields as are there fit, with their words.
+pub fields-fit : (n bytes taken : ℕ) → 0 < bytes → taken ≤ n / bytes → (taken * bytes ≤ n) × (taken * ((bytes + 3) / 4) ≤ n)
+fields-fit n bytes taken positive few =
+    let all = Nat.div-mul-le-self n bytes in
+    let some-of : taken * bytes ≤ n / bytes * bytes = Nat.mul-le-mul-right bytes few in
+    let words : taken * ((bytes + 3) / 4) ≤ taken * bytes = Nat.mul-le-mul-left taken (few-words bytes positive) in
+    (omega arith, omega arith)
+
+pub none-fits : (n bytes : ℕ) → 0 < bytes → n / bytes ≡ 0 → n < bytes
+none-fits n bytes positive is =
+    let sum = Nat.div-add-mod' n bytes in
+    let less = Nat.mod-lt n positive in
+    let none-there : n / bytes * bytes ≡ 0 = ap (λ q. q * bytes) is ∙ Nat.zero-mul bytes in
+    omega arith
+
+pub next-is : {s : Inside} {part c : ℕ} → part ≡ c → Next s part → Next s c
+next-is is next = record { no-run = next .no-run; digit = next .digit ∙ is; small = next .small }
+
+-- The bytes of a run's field, by the width that is kept.
+pub two-bytes : {w : ℕ} → w ≡ 2 → Fielded w 2
+two-bytes is = subst (λ w. Fielded w 2) (sym is) (record { any = record { sized = refl; all = refl; faultless = λ v. refl }; some = omega arith; few = omega arith })
+
+pub four-bytes : {w : ℕ} → w ≡ 4 → Fielded w 4
+four-bytes is = subst (λ w. Fielded w 4) (sym is) (record { any = record { sized = refl; all = refl; faultless = λ v. refl }; some = omega arith; few = omega arith })
+
+pub eight-bytes : {w : ℕ} → (w ≡ 2 → ⊥) → (w ≡ 4 → ⊥) → Fielded w 8
+eight-bytes {w} not-two not-four =
+    record {
+      any = subst (Any 8) (sym (ap (λ t. cond t (F.any char) (cond (eqb w 4) F.float F.double)) (ne-eqb w 2 not-two) ∙ ap (λ t. cond t F.float F.double) (ne-eqb w 4 not-four))) (record { sized = refl; all = refl; faultless = λ v. refl });
+      some = omega arith;
+      few = omega arith;
+    }
+
+-- What `segments_from` returns.
+module _ (s : Inside) (part doubles : ℕ) {left : ℕ} where
+  pub last-segment : left ≡ 0 → _≡_ {A = Inside} (record { parts = 24; run = doubles; width = 8; segments = 0; x = s .x; y = s .y }) (segmentsFrom s part left doubles)
+  last-segment is = sym (ap (λ n. segmentsFrom s part n doubles) is)
+
+  pub more-segments : (left ≡ 0 → ⊥) → _≡_ {A = Inside} (record { parts = part; run = doubles; width = 8; segments = left - 1; x = s .x; y = s .y }) (segmentsFrom s part left doubles)
+  more-segments more = ap {B = Inside} (λ t. record { parts = cond t 24 part; run = doubles; width = 8; segments = left - 1; x = s .x; y = s .y }) (sym (ne-eqb left 0 more))

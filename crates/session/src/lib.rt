@@ -1,5 +1,5 @@
 // A checking session (R-6): a plan that comes in pieces is judged part by part, and not stored.
 pub mod field;
-pub mod step;
 pub mod parts;
+pub mod step;
 pub mod whole;

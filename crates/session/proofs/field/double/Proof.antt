@@ -25,7 +25,7 @@ get-requires c κs = (refl, c .before .there .ensures .yes (c .if1 .taken))
 
 -- src/field.rt:63:9
 told-requires : tie.Need-told-requires
-told-requires c κs = 
+told-requires c κs =
     let at-if1 = c .before in
     let at-there = at-if1 .before in
     let at-pre = at-there .before .before in
@@ -33,7 +33,7 @@ told-requires c κs =
 
 -- src/field.rt:63:9
 returns : tie.Need-returns
-returns c = 
+returns c =
     let at-get = c .before in
     let at-if1 = at-get .before in
     let at-there = at-if1 .before in
@@ -47,7 +47,7 @@ cut-here-requires c κs = search needs
 
 -- src/field.rt:57:1
 returns-2 : tie.Need-returns-2
-returns-2 c = 
+returns-2 c =
     let at-if1 = c .before in
     let at-there = at-if1 .before in
     let at-shared-slice-known = at-there .before in

@@ -30,7 +30,7 @@ version-fault-requires c κs = search needs
 
 -- src/field.rt:164:9
 told-requires : tie.Need-told-requires
-told-requires c κs = 
+told-requires c κs =
     let at-if1 = c .before .before in
     let at-there = at-if1 .before in
     let at-pre = at-there .before .before in
@@ -38,7 +38,7 @@ told-requires c κs =
 
 -- src/field.rt:164:9
 returns : tie.Need-returns
-returns c = 
+returns c =
     let at-version-fault = c .before in
     let at-chars-at = at-version-fault .before in
     let at-if1 = at-chars-at .before in
@@ -53,7 +53,7 @@ cut-here-requires c κs = search needs
 
 -- src/field.rt:157:1
 returns-2 : tie.Need-returns-2
-returns-2 c = 
+returns-2 c =
     let at-if1 = c .before in
     let at-there = at-if1 .before in
     let at-shared-slice-known = at-there .before in

@@ -14,14 +14,14 @@ returns c = sym (ap (λ t. unless (t && leb (c .before .args .chars) 21045641221
 
 -- src/field.rt:152:9
 returns-2 : tie.Need-returns-2
-returns-2 c = 
+returns-2 c =
     let at-if1 = c .before in
     let at-args = at-if1 .before in
     sym (ap (λ t. unless (t && leb (at-args .args .chars) 210456412213) 4) (le-leb 210456412208 (at-args .args .chars) (at-if1 .if1 .left)) ∙ ap (λ t. unless t 4) (lt-leb (at-args .args .chars) 210456412213 (c .if2 .taken)))
 
 -- src/field.rt:145:1
 returns-3 : tie.Need-returns-3
-returns-3 c = 
+returns-3 c =
     let at-if1 = c .before in
     let at-args = at-if1 .before in
     sym (ap (λ t. unless (t && leb (at-args .args .chars) 210456412213) 4) (le-leb 210456412208 (at-args .args .chars) (at-if1 .if1 .left)) ∙ ap (λ t. unless t 4) (le-leb (at-args .args .chars) 210456412213 (c .if2 .left)))

@@ -18,7 +18,7 @@ doubles-requires c κs = search needs
 
 -- src/whole.rt:146:9
 returns : tie.Need-returns
-returns c = 
+returns c =
     let at-if1 = c .before in
     let at-args = at-if1 .before .before in
     part-at (at-if1 .if1 .taken) (whole-part (λ n K. is-point (at-args .args .version) n (at-args .args .x) (at-args .args .y) K) (c .doubles .ensures))
@@ -29,7 +29,7 @@ doubles-requires-2 c κs = search needs
 
 -- src/whole.rt:149:9
 returns-2 : tie.Need-returns-2
-returns-2 c = 
+returns-2 c =
     let at-if2 = c .before in
     let at-args = at-if2 .before .before .before in
     part-at (at-if2 .if2 .taken) (whole-part (λ n K. is-controls (at-args .args .version) n (at-args .args .x) (at-args .args .y) K) (c .doubles2 .ensures))
@@ -40,7 +40,7 @@ joined-start-requires c κs = search needs
 
 -- src/whole.rt:152:9
 returns-3 : tie.Need-returns-3
-returns-3 c = 
+returns-3 c =
     let at-if3 = c .before in
     let at-args = at-if3 .before .before .before .before in
     part-at (at-if3 .if3 .taken) (whole-part (λ n K. is-join (at-args .args .version) n (at-args .args .x) (at-args .args .y) K) (c .joined-start .ensures))
@@ -51,7 +51,7 @@ face-requires c κs = search needs
 
 -- src/whole.rt:155:9
 returns-4 : tie.Need-returns-4
-returns-4 c = 
+returns-4 c =
     let at-if4 = c .before in
     let at-args = at-if4 .before .before .before .before .before in
     part-at (at-if4 .if4 .taken) (whole-part (λ n K. is-face (at-args .args .version) n (at-args .args .x) (at-args .args .y) K) (c .face .ensures))
@@ -62,7 +62,7 @@ doubles-requires-3 c κs = search needs
 
 -- src/whole.rt:158:9
 returns-5 : tie.Need-returns-5
-returns-5 c = 
+returns-5 c =
     let at-if5 = c .before in
     let at-args = at-if5 .before .before .before .before .before .before in
     part-at (at-if5 .if5 .taken) (whole-part (λ n K. is-transformation (at-args .args .version) n (at-args .args .x) (at-args .args .y) K) (c .doubles3 .ensures))
@@ -73,7 +73,7 @@ alignment-requires c κs = search needs
 
 -- src/whole.rt:140:1
 returns-6 : tie.Need-returns-6
-returns-6 c = 
+returns-6 c =
     let at-args = c .before .before .before .before .before .before .before in
     let is : at-args .args .part ≡ 10 = omega arith in part-at is (whole-part (λ n K. is-alignment (at-args .args .version) n (at-args .args .x) (at-args .args .y) K) (c .alignment .ensures))
 
