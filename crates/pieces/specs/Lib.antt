@@ -17,3 +17,4 @@ pub mod VerdictLaws
 pub mod Session
 pub mod SessionPromises
 pub mod SessionLaws
+pub mod EntryLaws

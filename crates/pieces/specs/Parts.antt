@@ -4,7 +4,7 @@ use mathlib.Core.Bool.{Bool, true, false, cond}
 use mathlib.Core.Option.{Option, none, some}
 use Prim.Native.Nat.{ℕ, zero, suc, _+_, _-_, _/_, _%_}
 use mathlib.Core.List.{List, [], _∷_}
-use lib.ListN.{getD}
+use lib.ListN.{getD, set}
 use lib.Dec.{eqb}
 use Rattle.format.specs.Kind.{Kind, char}
 use Rattle.format.specs.Script.{Script, end, ask}
@@ -177,7 +177,7 @@ outerOn v = script (outerGroup v .format) (λ t. end (suc (rowsAll (t .0))))
 -- Where a session stands in a file.
 pub record Standing : Type 0 where
   pub version : ℕ
-  -- which part of the head comes next: JDR, the version's length, its chars, the settings, the outer id; or objects
+  -- which part of the head comes next: JDR, the version's length, its chars, the settings, the outer id; or a group's count, or objects
   pub stage : ℕ
   -- how many groups are open, and of each the members left, the outer one first
   pub depth : ℕ
@@ -185,27 +185,16 @@ pub record Standing : Type 0 where
   pub rows : ℕ
   pub within : Inside
 
--- What is left of a file: the number of its rows comes of it.
-unfoldable pub rest : Standing → Script ℕ
-rest s =
-    elim (eqb (s .stage) 0) [
-      | true ↦ headOn file
-      | false ↦
-          elim (eqb (s .stage) 1) [
-            | true ↦ headOn (constant F.versionLength 3 version-length-only (drawingFrom version))
-            | false ↦
-                elim (eqb (s .stage) 2) [
-                  | true ↦ headOn (drawingFrom version)
-                  | false ↦
-                      elim (eqb (s .stage) 3) [
-                        | true ↦ script (settings (s .version) .format) (λ t. outerOn (s .version))
-                        | false ↦
-                            elim (eqb (s .stage) 4) [
-                              | true ↦ outerOn (s .version)
-                              | false ↦
-                                  followed (inside (s .version) (s .within)) (λ u. groups (s .version) (s .members) (s .depth) (s .rows))
-                            ]
-                      ]
-                ]
-          ]
-    ]
+-- What is left of a file from a stage on: the number of its rows comes of it.
+unfoldable pub restAt : (stage : ℕ) → Standing → Script ℕ
+restAt stage s =
+    elim (eqb stage 0) [ true ↦ headOn file | false ↦
+    elim (eqb stage 1) [ true ↦ headOn (constant F.versionLength 3 version-length-only (drawingFrom version)) | false ↦
+    elim (eqb stage 2) [ true ↦ headOn (drawingFrom version) | false ↦
+    elim (eqb stage 3) [ true ↦ script (settings (s .version) .format) (λ t. outerOn (s .version)) | false ↦
+    elim (eqb stage 4) [ true ↦ outerOn (s .version) | false ↦
+    elim (eqb stage 5) [ true ↦ ask F.memberCount (λ n. groups (s .version) (set (s .members) (s .depth) n) (suc (s .depth)) (s .rows)) | false ↦
+    followed (inside (s .version) (s .within)) (λ u. groups (s .version) (s .members) (s .depth) (s .rows)) ] ] ] ] ] ]
+
+abbrev pub rest : Standing → Script ℕ
+rest s = restAt (s .stage) s

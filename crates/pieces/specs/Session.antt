@@ -36,11 +36,13 @@ verdictNow s = cond (eqb (s .number) 0) (answer accepted (s .bytes) (s .rows) (s
 
 -- The stage of a session that has found a fault.
 abbrev pub stopped : ℕ
-stopped = 6
+stopped = 7
 
 -- No fault yet: whatever comes behind, the file comes to what is left comes to, behind the bytes held.
 pub record Going (bs : List ℕ) (s : Session) : Type 0 where
   pub on : s .stage < stopped
+  -- a group whose count comes next may be open
+  pub may-open : s .stage ≡ 5 → s .depth < depthLimit
   pub few-held : (s .held < room) × (s .held ≤ length bs)
   pub few-words : (s .words ≤ length bs) × (s .rows ≤ length bs)
   pub number-now : s .number < 14
