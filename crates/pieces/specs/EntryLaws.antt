@@ -94,6 +94,9 @@ leaf-inside v c s is = leaf-apart v c ∙ by (eqb c 84) (eqb c 73) (eqb c 88) re
 -- ---- the head
 
 -- The same at another stage, and with other numbers.
+abbrev pub staged : Standing → ℕ → Standing
+staged s n = record { version = s .version; stage = n; depth = s .depth; members = s .members; rows = s .rows; within = s .within }
+
 abbrev pub known : Standing → ℕ → Standing
 known s v = record { version = v; stage = 3; depth = s .depth; members = s .members; rows = s .rows; within = s .within }
 
@@ -107,11 +110,11 @@ abbrev pub outerId : Kind
 outerId = charWhere (λ c. eqb c (code "G"))
 
 module _ (s : Standing) where
-  pub rest-magic : restAt 0 s ≡ ask magic (λ m. restAt 1 s)
+  pub rest-magic : restAt 0 s ≡ ask magic (λ m. restAt 1 (staged s 1))
   unfolding restAt
   rest-magic = refl
 
-  pub rest-length : restAt 1 s ≡ ask versionLength (λ n. restAt 2 s)
+  pub rest-length : restAt 1 s ≡ ask versionLength (λ n. restAt 2 (staged s 2))
   unfolding restAt
   rest-length = refl
 
@@ -119,7 +122,7 @@ module _ (s : Standing) where
   unfolding restAt
   rest-version = refl
 
-  pub rest-settings : restAt 3 s ≡ script (settings (s .version) .format) (λ t. restAt 4 s)
+  pub rest-settings : restAt 3 s ≡ script (settings (s .version) .format) (λ t. restAt 4 (staged s 4))
   unfolding restAt
   rest-settings = refl
 
@@ -133,7 +136,7 @@ module _ (s : Standing) where
 
 -- ---- objects
 
-none-inside : (v : ℕ) (w : Inside) → w .run ≡ 0 → w .parts % 25 ≡ 0 → w .parts < 2 ^ 64 → inside v w ≡ done
+pub none-inside : (v : ℕ) (w : Inside) → w .run ≡ 0 → w .parts % 25 ≡ 0 → w .parts < 2 ^ 64 → inside v w ≡ done
 unfolding partThen
 none-inside v w no-run digit small = next-part v w 0 no-run digit small
 
@@ -156,10 +159,10 @@ module _ (s : Standing) (nothing-left : inside (s .version) (s .within) ≡ done
 
     module _ {m : ℕ} (some-left : getD (s .members) d 0 ≡ suc m) (there : d < length (s .members)) where
       -- What is left around an object, by its rows.
-      abbrev then : ℕ → Script ℕ
+      abbrev pub then : ℕ → Script ℕ
       then n = groups (s .version) (set (s .members) d m) (suc d) (s .rows + n)
 
-      abbrev leafOn : ℕ → Script ℕ
+      abbrev pub leafOn : ℕ → Script ℕ
       leafOn c = script (leafBody (s .version) c .format) (λ t. then 1)
 
       objects : restAt 6 s ≡ script (object (s .version) (depthLimit - suc d) .format) (λ o. then (rows o))

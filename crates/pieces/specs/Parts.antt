@@ -188,13 +188,31 @@ pub record Standing : Type 0 where
 -- What is left of a file from a stage on: the number of its rows comes of it.
 unfoldable pub restAt : (stage : ℕ) → Standing → Script ℕ
 restAt stage s =
-    elim (eqb stage 0) [ true ↦ headOn file | false ↦
-    elim (eqb stage 1) [ true ↦ headOn (constant F.versionLength 3 version-length-only (drawingFrom version)) | false ↦
-    elim (eqb stage 2) [ true ↦ headOn (drawingFrom version) | false ↦
-    elim (eqb stage 3) [ true ↦ script (settings (s .version) .format) (λ t. outerOn (s .version)) | false ↦
-    elim (eqb stage 4) [ true ↦ outerOn (s .version) | false ↦
-    elim (eqb stage 5) [ true ↦ ask F.memberCount (λ n. groups (s .version) (set (s .members) (s .depth) n) (suc (s .depth)) (s .rows)) | false ↦
-    followed (inside (s .version) (s .within)) (λ u. groups (s .version) (s .members) (s .depth) (s .rows)) ] ] ] ] ] ]
+    elim (eqb stage 0) [
+      | true ↦ headOn file
+      | false ↦
+          elim (eqb stage 1) [
+            | true ↦ headOn (constant F.versionLength 3 version-length-only (drawingFrom version))
+            | false ↦
+                elim (eqb stage 2) [
+                  | true ↦ headOn (drawingFrom version)
+                  | false ↦
+                      elim (eqb stage 3) [
+                        | true ↦ script (settings (s .version) .format) (λ t. outerOn (s .version))
+                        | false ↦
+                            elim (eqb stage 4) [
+                              | true ↦ outerOn (s .version)
+                              | false ↦
+                                  elim (eqb stage 5) [
+                                    | true ↦ ask F.memberCount (λ n. groups (s .version) (set (s .members) (s .depth) n) (suc (s .depth)) (s .rows))
+                                    | false ↦
+                                        followed (inside (s .version) (s .within)) (λ u. groups (s .version) (s .members) (s .depth) (s .rows))
+                                  ]
+                            ]
+                      ]
+                ]
+          ]
+    ]
 
 abbrev pub rest : Standing → Script ℕ
 rest s = restAt (s .stage) s

@@ -3,3 +3,4 @@ pub mod Steps
 pub mod Wholes
 pub mod Told
 pub mod Insides
+pub mod Objects

@@ -55,6 +55,11 @@ pub steps-gone : {R : Type 0} {s s′ s″ : Script R} {us : List ℕ} {at to at
 steps-gone off steps =
     record { goes = λ on. absurd (omega arith); moves = λ on. absurd (omega arith); stops = steps .stops; ready = steps .ready }
 
+-- What comes behind a part that was passed, said otherwise.
+pub steps-end : {R : Type 0} {s t s′ : Script R} {us : List ℕ} {at to at′ to′ : ℕ} → (at′ < refused → t ≡ s′) → StepsTo s t us at to at′ to′ → StepsTo s s′ us at to at′ to′
+steps-end last steps =
+    record { goes = λ on. goes-same refl (last on) (steps .goes on); moves = steps .moves; stops = steps .stops; ready = steps .ready }
+
 -- With anything behind.
 pub steps-behind : {A R : Type 0} (s s′ : Script A) (then : A → Script R) {us : List ℕ} {at to at′ to′ : ℕ} → StepsTo s s′ us at to at′ to′ → StepsTo (followed s then) (followed s′ then) us at to at′ to′
 steps-behind s s′ then steps =

@@ -25,6 +25,7 @@ use Rattle.session.specs.Steps.{StepsTo}
 -- A field of this kind was judged: what follows goes on by its value.
 pub record Told (R : Type 0) (k : Kind) (us : List ℕ) (at to : ℕ) (q : FieldPass) : Type 0 where
   pub steps : (next : ℕ → Script R) → StepsTo (ask k next) (next (q .value)) us at to (q .pass .at) (q .pass .to)
+  pub fine : q .pass .at < refused → k .fault (q .value) ≡ 0
 
 -- A value that is there, behind so many bytes and words, or the fault that it is.
 abbrev pub toldOf : (at to bytes words value fault : ℕ) → FieldPass
@@ -46,6 +47,7 @@ told-refused {R} {k} {us} {at} {to} {n} {q} fits ready inside reads is =
                 (field-stops k next fits (reads ∙ ap (λ a. C.refused n (drop a us)) (sym back)), omega arith);
             ready = refusal-ready way n at (length us) (ready .short) inside;
           };
+      fine = λ on. absurd (omega arith);
     })
 
 module _ {R : Type 0} (k : Kind) (all : values (k .shape) ≡ 256 ^ size (k .shape)) (wide : 0 < size (k .shape)) (fits : size (k .shape) ≤ 8) {us : List ℕ} (below : Below 256 us) {at to : ℕ} (ready : Ready (length us) at to) (inside : at ≤ length us) where
@@ -74,6 +76,7 @@ module _ {R : Type 0} (k : Kind) (all : values (k .shape) ≡ 256 ^ size (k .sha
                       let few = ready .few (omega arith) in
                       record { short = short; near = omega arith; inside = λ h. there; few = λ h. omega arith };
                 };
+            fine = λ on. sym fault-is ∙ e;
           })
       by (suc x) e =
           told-refused (omega arith) ready inside (fault-here us below k all at there n same-fault (omega arith))

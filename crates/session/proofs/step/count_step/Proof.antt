@@ -39,7 +39,7 @@ stepped-requires c κs = search needs
 
 -- src/step.rt:253:9
 returns : tie.Need-returns
-returns c = 
+returns c =
     let at-segments-from = c .before in
     let at-if1 = at-segments-from .before in
     let at-count = at-if1 .before .before .before in
@@ -57,7 +57,7 @@ stepped-requires-2 c κs = search needs
 
 -- src/step.rt:244:1
 returns-2 : tie.Need-returns-2
-returns-2 c = 
+returns-2 c =
     let at-segments-from2 = c .before in
     let at-if1 = at-segments-from2 .before in
     let at-count = at-if1 .before .before .before in

@@ -40,7 +40,7 @@ stepped-requires c κs = search needs
 
 -- src/step.rt:164:1
 returns : tie.Need-returns
-returns c = 
+returns c =
     let at-with-run = c .before in
     let at-dash-run = at-with-run .before in
     let at-dash-count = at-dash-run .before .before .before in

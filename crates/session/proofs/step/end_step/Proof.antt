@@ -34,7 +34,7 @@ stepped-requires c κs = search needs
 
 -- src/step.rt:334:9
 returns : tie.Need-returns
-returns c = 
+returns c =
     let at-with-run = c .before in
     let at-if1 = at-with-run .before in
     let at-flow-flag = at-if1 .before .before in
@@ -52,7 +52,7 @@ stepped-requires-2 c κs = search needs
 
 -- src/step.rt:326:1
 returns-2 : tie.Need-returns-2
-returns-2 c = 
+returns-2 c =
     let at-with-run2 = c .before in
     let at-if1 = at-with-run2 .before in
     let at-flow-flag = at-if1 .before .before in

@@ -39,7 +39,7 @@ stepped-requires c κs = search needs
 
 -- src/step.rt:188:1
 returns : tie.Need-returns
-returns c = 
+returns c =
     let at-with-run = c .before in
     let at-either-parts = at-with-run .before in
     let at-flag = at-either-parts .before .before .before in

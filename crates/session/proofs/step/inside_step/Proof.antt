@@ -18,7 +18,7 @@ returns c = search needs
 
 -- src/step.rt:427:5
 part-step-requires : tie.Need-part-step-requires
-part-step-requires c κs = 
+part-step-requires c κs =
     let at-if1 = c .before in
     let at-args = at-if1 .before .before .before in
     let left = at-if1 .if1 .left in let none-left : at-args .args .s .run ≡ 0 = omega arith in let more = at-args .pre .1 .1 .more none-left in (at-args .pre .0, (at-args .pre .1 .0, record { no-run = none-left; digit = refl; small = omega arith }, more, omega arith))

@@ -37,7 +37,7 @@ returns-3 c = search needs
 
 -- src/step.rt:381:9
 own-step-requires : tie.Need-own-step-requires
-own-step-requires c κs = 
+own-step-requires c κs =
     let at-pre = c .before .before .before .before .before in
     (at-pre .pre .0, (at-pre .pre .1 .0, first-tells (at-pre .args .version) (at-pre .args .s) (next-is (c .if4 .taken) (at-pre .pre .1 .1))))
 
@@ -47,7 +47,7 @@ returns-4 c = search needs
 
 -- src/step.rt:383:5
 own-step-requires-2 : tie.Need-own-step-requires-2
-own-step-requires-2 c κs = 
+own-step-requires-2 c κs =
     let at-args = c .before .before .before .before .before in
     let is : at-args .args .part ≡ 21 = omega arith in (at-args .pre .0, (at-args .pre .1 .0, joined-tells (at-args .args .version) (at-args .args .s) (next-is is (at-args .pre .1 .1))))
 

@@ -34,7 +34,7 @@ stepped-requires c κs = search needs
 
 -- src/step.rt:233:1
 returns : tie.Need-returns
-returns c = 
+returns c =
     let at-with-run = c .before in
     let at-closed-letter = at-with-run .before .before in
     let at-shared-slice-known = at-closed-letter .before .before in

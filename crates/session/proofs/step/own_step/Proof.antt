@@ -44,7 +44,7 @@ stepped-requires c κs = search needs
 
 -- src/step.rt:271:1
 returns : tie.Need-returns
-returns c = 
+returns c =
     let at-with-run = c .before in
     let at-either-parts = at-with-run .before in
     let at-is-straight = at-either-parts .before in

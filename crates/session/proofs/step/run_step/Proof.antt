@@ -39,7 +39,7 @@ stepped-requires c κs = search needs
 
 -- src/step.rt:113:9
 returns : tie.Need-returns
-returns c = 
+returns c =
     let at-refusal = c .before in
     let at-if1 = at-refusal .before in
     let at-field-bytes = at-if1 .before in
@@ -57,14 +57,14 @@ with-run-requires c κs = search needs
 
 -- src/step.rt:119:22
 mul-t17 : tie.Need-mul-t17
-mul-t17 c = 
+mul-t17 c =
     let at-field-bytes = c .before .before .before .before .before in
     let at-args = at-field-bytes .before .before in
     let fit = fields-fit (length (at-args .args .src .now) - at-args .args .at) (at-field-bytes .field-bytes .result) (((length (at-args .args .src .now) - at-args .args .at) / at-field-bytes .field-bytes .result)) (at-field-bytes .field-bytes .ensures .some) (Nat.le-refl ((length (at-args .args .src .now) - at-args .args .at) / at-field-bytes .field-bytes .result)) in let h = fit .0 in let g = fit .1 in let short = at-args .pre .0 .short in let inside = at-args .pre .1 .0 in let few = at-args .pre .0 .few (omega arith) in omega arith
 
 -- src/step.rt:119:17
 add-t18 : tie.Need-add-t18
-add-t18 c = 
+add-t18 c =
     let at-field-bytes = c .before .before .before .before .before in
     let at-args = at-field-bytes .before .before in
     let fit = fields-fit (length (at-args .args .src .now) - at-args .args .at) (at-field-bytes .field-bytes .result) (((length (at-args .args .src .now) - at-args .args .at) / at-field-bytes .field-bytes .result)) (at-field-bytes .field-bytes .ensures .some) (Nat.le-refl ((length (at-args .args .src .now) - at-args .args .at) / at-field-bytes .field-bytes .result)) in let h = fit .0 in let g = fit .1 in let short = at-args .pre .0 .short in let inside = at-args .pre .1 .0 in let few = at-args .pre .0 .few (omega arith) in omega arith
@@ -75,21 +75,21 @@ add-t19 c = search needs
 
 -- src/step.rt:120:22
 mul-t21 : tie.Need-mul-t21
-mul-t21 c = 
+mul-t21 c =
     let at-field-bytes = c .before .before .before .before .before in
     let at-args = at-field-bytes .before .before in
     let fit = fields-fit (length (at-args .args .src .now) - at-args .args .at) (at-field-bytes .field-bytes .result) (((length (at-args .args .src .now) - at-args .args .at) / at-field-bytes .field-bytes .result)) (at-field-bytes .field-bytes .ensures .some) (Nat.le-refl ((length (at-args .args .src .now) - at-args .args .at) / at-field-bytes .field-bytes .result)) in let h = fit .0 in let g = fit .1 in let short = at-args .pre .0 .short in let inside = at-args .pre .1 .0 in let few = at-args .pre .0 .few (omega arith) in omega arith
 
 -- src/step.rt:120:17
 add-t22 : tie.Need-add-t22
-add-t22 c = 
+add-t22 c =
     let at-field-bytes = c .before .before .before .before .before in
     let at-args = at-field-bytes .before .before in
     let fit = fields-fit (length (at-args .args .src .now) - at-args .args .at) (at-field-bytes .field-bytes .result) (((length (at-args .args .src .now) - at-args .args .at) / at-field-bytes .field-bytes .result)) (at-field-bytes .field-bytes .ensures .some) (Nat.le-refl ((length (at-args .args .src .now) - at-args .args .at) / at-field-bytes .field-bytes .result)) in let h = fit .0 in let g = fit .1 in let short = at-args .pre .0 .short in let inside = at-args .pre .1 .0 in let few = at-args .pre .0 .few (omega arith) in omega arith
 
 -- src/step.rt:117:9
 returns-2 : tie.Need-returns-2
-returns-2 c = 
+returns-2 c =
     let at-if2 = c .before .before in
     let at-if1 = at-if2 .before .before in
     let at-field-bytes = at-if1 .before in
@@ -103,7 +103,7 @@ with-run-requires-2 c κs = search needs
 
 -- src/step.rt:126:18
 mul-t10 : tie.Need-mul-t10
-mul-t10 c = 
+mul-t10 c =
     let at-if2 = c .before in
     let at-field-bytes = at-if2 .before .before .before in
     let at-args = at-field-bytes .before .before in
@@ -111,7 +111,7 @@ mul-t10 c =
 
 -- src/step.rt:126:13
 add-t11 : tie.Need-add-t11
-add-t11 c = 
+add-t11 c =
     let at-if2 = c .before in
     let at-field-bytes = at-if2 .before .before .before in
     let at-args = at-field-bytes .before .before in
@@ -123,7 +123,7 @@ add-t24 c = search needs
 
 -- src/step.rt:127:18
 mul-t26 : tie.Need-mul-t26
-mul-t26 c = 
+mul-t26 c =
     let at-if2 = c .before in
     let at-field-bytes = at-if2 .before .before .before in
     let at-args = at-field-bytes .before .before in
@@ -131,7 +131,7 @@ mul-t26 c =
 
 -- src/step.rt:127:13
 add-t27 : tie.Need-add-t27
-add-t27 c = 
+add-t27 c =
     let at-if2 = c .before in
     let at-field-bytes = at-if2 .before .before .before in
     let at-args = at-field-bytes .before .before in
@@ -139,7 +139,7 @@ add-t27 c =
 
 -- src/step.rt:105:1
 returns-3 : tie.Need-returns-3
-returns-3 c = 
+returns-3 c =
     let at-if2 = c .before in
     let at-field-bytes = at-if2 .before .before .before in
     let at-shared-slice-known = at-field-bytes .before in

@@ -44,7 +44,7 @@ stepped-requires c κs = search needs
 
 -- src/step.rt:259:1
 returns : tie.Need-returns
-returns c = 
+returns c =
     let at-segments-from = c .before in
     let at-either-parts = at-segments-from .before in
     let at-is-straight = at-either-parts .before in

@@ -32,7 +32,7 @@ stepped-requires c κs = search needs
 
 -- src/step.rt:143:1
 returns : tie.Need-returns
-returns c = 
+returns c =
     let at-with-run = c .before in
     let at-count = at-with-run .before .before .before in
     let at-shared-slice-known = at-count .before .before in

@@ -20,7 +20,7 @@ returns c = search needs
 
 -- src/step.rt:351:9
 string-step-requires : tie.Need-string-step-requires
-string-step-requires c κs = 
+string-step-requires c κs =
     let at-pre = c .before .before .before in
     (at-pre .pre .0, (at-pre .pre .1 .0, string-spells (at-pre .args .version) (at-pre .args .s) (next-is (c .if2 .taken) (at-pre .pre .1 .1))))
 
@@ -30,7 +30,7 @@ returns-2 c = search needs
 
 -- src/step.rt:354:9
 string-step-requires-2 : tie.Need-string-step-requires-2
-string-step-requires-2 c κs = 
+string-step-requires-2 c κs =
     let at-pre = c .before .before .before .before in
     (at-pre .pre .0, (at-pre .pre .1 .0, words-spell (at-pre .args .version) (at-pre .args .s) (next-is (c .if3 .taken) (at-pre .pre .1 .1))))
 
@@ -40,7 +40,7 @@ returns-3 c = search needs
 
 -- src/step.rt:357:9
 flag-step-requires : tie.Need-flag-step-requires
-flag-step-requires c κs = 
+flag-step-requires c κs =
     let at-pre = c .before .before .before .before .before in
     (at-pre .pre .0, (at-pre .pre .1 .0, latex-tells (at-pre .args .version) (at-pre .args .s) (next-is (c .if4 .taken) (at-pre .pre .1 .1))))
 
@@ -50,7 +50,7 @@ returns-4 c = search needs
 
 -- src/step.rt:360:9
 flag-step-requires-2 : tie.Need-flag-step-requires-2
-flag-step-requires-2 c κs = 
+flag-step-requires-2 c κs =
     let at-pre = c .before .before .before .before .before .before in
     (at-pre .pre .0, (at-pre .pre .1 .0, along-tells (at-pre .args .version) (at-pre .args .s) (next-is (c .if5 .taken) (at-pre .pre .1 .1))))
 
@@ -60,7 +60,7 @@ returns-5 c = search needs
 
 -- src/step.rt:362:5
 flag-step-requires-3 : tie.Need-flag-step-requires-3
-flag-step-requires-3 c κs = 
+flag-step-requires-3 c κs =
     let at-args = c .before .before .before .before .before .before in
     let is : at-args .args .part ≡ 16 = omega arith in (at-args .pre .0, (at-args .pre .1 .0, links-tell (at-args .args .version) (at-args .args .s) (next-is is (at-args .pre .1 .1))))
 

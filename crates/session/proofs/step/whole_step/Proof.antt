@@ -27,7 +27,7 @@ stepped-requires c κs = search needs
 
 -- src/step.rt:133:1
 returns : tie.Need-returns
-returns c = 
+returns c =
     let at-with-run = c .before in
     let at-whole = at-with-run .before .before in
     let at-pre = at-whole .before .before in

@@ -25,7 +25,7 @@ stepped-requires c κs = search needs
 
 -- src/step.rt:291:1
 returns : tie.Need-returns
-returns c = 
+returns c =
     let at-double = c .before in
     let at-args = at-double .before .before in
     step-is (c .stepped .ensures) (told-inside (x-tells (at-args .args .version) (at-args .args .s) (at-args .pre .1 .1)) (at-double .double .ensures) refl)

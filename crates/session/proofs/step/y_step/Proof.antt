@@ -30,7 +30,7 @@ stepped-requires c κs = search needs
 
 -- src/step.rt:308:1
 returns : tie.Need-returns
-returns c = 
+returns c =
     let at-segments-from = c .before in
     let at-double = at-segments-from .before in
     let at-args = at-double .before .before in
