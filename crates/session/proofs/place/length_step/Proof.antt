@@ -27,7 +27,7 @@ placed-requires c κs = search needs
 
 -- src/place.rt:109:1
 returns : tie.Need-returns
-returns c = 
+returns c =
     let at-at-stage = c .before in
     let at-version-length = at-at-stage .before in
     let at-args = at-version-length .before .before in

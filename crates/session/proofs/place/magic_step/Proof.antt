@@ -27,7 +27,7 @@ placed-requires c κs = search needs
 
 -- src/place.rt:100:1
 returns : tie.Need-returns
-returns c = 
+returns c =
     let at-at-stage = c .before in
     let at-magic = at-at-stage .before in
     let at-args = at-magic .before .before in

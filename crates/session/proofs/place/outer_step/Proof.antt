@@ -19,7 +19,7 @@ placed-requires c κs = search needs
 
 -- src/place.rt:143:1
 returns : tie.Need-returns
-returns c = 
+returns c =
     let at-outer-id = c .before .before in
     let at-args = at-outer-id .before .before in
     head-told (at-args .args .p) (at-args .pre .1 .1) outerId (record { stage = 5; version = at-args .args .p .version; depth = 0; rows = 1; inside = at-args .args .p .inside }) (λ ms some. rest-outer (standingOf (at-args .args .p) ms) some) (record { staged = omega arith; shallow = omega arith; may-open = λ e. omega arith }) (omega arith) (at-outer-id .outer-id .ensures) (c .placed .ensures)

@@ -32,7 +32,7 @@ placed-requires c κs = search needs
 
 -- src/place.rt:132:1
 returns : tie.Need-returns
-returns c = 
+returns c =
     let at-at-stage = c .before in
     let at-settings = at-at-stage .before .before in
     let at-args = at-settings .before .before .before in

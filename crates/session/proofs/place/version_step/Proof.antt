@@ -25,7 +25,7 @@ placed-requires c κs = search needs
 
 -- src/place.rt:126:9
 returns : tie.Need-returns
-returns c = 
+returns c =
     let at-if1 = c .before in
     let at-version-chars = at-if1 .before .before .before in
     let at-args = at-version-chars .before .before in
@@ -33,14 +33,14 @@ returns c =
 
 -- src/place.rt:128:19
 sub-version : tie.Need-sub-version
-sub-version c = 
+sub-version c =
     let at-if1 = c .before in
     let at-version-chars = at-if1 .before .before .before in
     let on = at-if1 .if1 .left in let range = version-range (at-version-chars .version-chars .result .value) (at-version-chars .version-chars .ensures .fine (omega arith)) in let low = range .0 in omega arith
 
 -- src/place.rt:129:27
 cast-at-stage : tie.Need-cast-at-stage
-cast-at-stage c = 
+cast-at-stage c =
     let at-if1 = c .before in
     let at-version-chars = at-if1 .before .before .before in
     let on = at-if1 .if1 .left in let range = version-range (at-version-chars .version-chars .result .value) (at-version-chars .version-chars .ensures .fine (omega arith)) in let low = range .0 in let high = range .1 in omega arith
@@ -55,7 +55,7 @@ placed-requires-2 c κs = search needs
 
 -- src/place.rt:118:1
 returns-2 : tie.Need-returns-2
-returns-2 c = 
+returns-2 c =
     let at-at-stage = c .before in
     let at-version-chars = at-at-stage .before .before .before .before .before in
     let at-args = at-version-chars .before .before in
