@@ -4,3 +4,4 @@ pub mod Wholes
 pub mod Told
 pub mod Insides
 pub mod Objects
+pub mod Running

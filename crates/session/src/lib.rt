@@ -2,5 +2,6 @@
 pub mod field;
 pub mod parts;
 pub mod place;
+pub mod run;
 pub mod step;
 pub mod whole;

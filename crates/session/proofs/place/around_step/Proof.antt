@@ -44,7 +44,7 @@ parts-only-requires c κs = search needs
 
 -- src/place.rt:275:9
 end-step-requires : tie.Need-end-step-requires
-end-step-requires c κs = 
+end-step-requires c κs =
     let at-pre = c .before .before .before .before .before .before .before in
     (at-pre .pre .0, (at-pre .pre .1 .0 .0, end-next (at-pre .args .p .inside) (c .parts-only .ensures)))
 
@@ -54,7 +54,7 @@ sub-t10 c = search needs
 
 -- src/place.rt:264:1
 returns-2 : tie.Need-returns-2
-returns-2 c = 
+returns-2 c =
     let at-end-step = c .before .before in
     let at-parts-only = at-end-step .before in
     let at-if1 = at-parts-only .before .before in

@@ -31,7 +31,7 @@ placed-requires c κs = search needs
 
 -- src/place.rt:193:9
 returns : tie.Need-returns
-returns c = 
+returns c =
     let at-if1 = c .before in
     let at-count = at-if1 .before .before .before .before in
     let at-shared-slice-known = at-count .before .before .before in
@@ -72,7 +72,7 @@ same-length c = search needs
 
 -- src/place.rt:184:1
 returns-2 : tie.Need-returns-2
-returns-2 c = 
+returns-2 c =
     let at-parts-only = c .before in
     let at-if1 = at-parts-only .before .before .before .before .before in
     let at-count = at-if1 .before .before .before .before in

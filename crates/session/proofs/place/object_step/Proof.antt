@@ -23,7 +23,7 @@ placed-requires c κs = search needs
 
 -- src/place.rt:251:9
 returns : tie.Need-returns
-returns c = 
+returns c =
     let at-if1 = c .before in
     let at-object-id = at-if1 .before .before .before in
     let at-args = at-object-id .before .before .before .before in
@@ -71,7 +71,7 @@ same-length c = search needs
 
 -- src/place.rt:257:9
 returns-2 : tie.Need-returns-2
-returns-2 c = 
+returns-2 c =
     let at-row-more = c .before in
     let at-if2 = at-row-more .before in
     let at-if1 = at-if2 .before .before .before .before .before in
@@ -89,7 +89,7 @@ parts-only-requires c κs = search needs
 
 -- src/place.rt:260:12
 row-more-requires-2 : tie.Need-row-more-requires-2
-row-more-requires-2 c κs = 
+row-more-requires-2 c κs =
     let at-pre = c .before .before .before .before .before .before .before .before .before .before .before .before .before .before in
     at-pre .pre .1 .0 .4
 
@@ -103,7 +103,7 @@ same-length-2 c = search needs
 
 -- src/place.rt:242:1
 returns-3 : tie.Need-returns-3
-returns-3 c = 
+returns-3 c =
     let at-row-more2 = c .before in
     let at-parts-only = at-row-more2 .before in
     let at-leaf-parts = at-parts-only .before in

@@ -13,7 +13,7 @@ inside-step-requires c κs = search needs
 
 -- src/place.rt:291:1
 returns : tie.Need-returns
-returns c = 
+returns c =
     let at-inside-step = c .before in
     let at-args = at-inside-step .before .before .before in
     λ ms. open-place (at-args .args .p) ms (at-args .pre .1 .1) (at-args .pre .1 .3) (at-inside-step .inside-step .ensures)

@@ -23,7 +23,7 @@ returns c = let full = c .before .before .before .before .pre .1 .4 in place-hea
 
 -- src/place.rt:347:9
 count-step-requires : tie.Need-count-step-requires
-count-step-requires c κs = 
+count-step-requires c κs =
     let at-if2 = c .before in
     let at-pre = at-if2 .before .before .before .before in
     (at-pre .pre .0, (at-pre .pre .1 .0, at-if2 .if2 .taken, at-pre .pre .1 .1 .may-open (at-if2 .if2 .taken), at-pre .pre .1 .4))
@@ -42,7 +42,7 @@ is-open-requires c κs = search needs
 
 -- src/place.rt:351:9
 open-step-requires : tie.Need-open-step-requires
-open-step-requires c κs = 
+open-step-requires c κs =
     let at-is-open = c .before in
     let at-if2 = at-is-open .before .before in
     let at-if1 = at-if2 .before in
@@ -51,13 +51,13 @@ open-step-requires c κs =
 
 -- src/place.rt:351:9
 returns-3 : tie.Need-returns-3
-returns-3 c = 
+returns-3 c =
     let at-args = c .before .before .before .before .before .before .before .before in
     c .open-step .ensures (at-args .args .members .now)
 
 -- src/place.rt:353:5
 around-step-requires : tie.Need-around-step-requires
-around-step-requires c κs = 
+around-step-requires c κs =
     let at-if3 = c .before in
     let at-is-open = at-if3 .before in
     let at-if2 = at-is-open .before .before in
