@@ -1,19 +1,20 @@
 -- Sessions: however a file is cut, the verdict is the reader's on the joined bytes; and a verdict is repeated.
 use mathlib.Core.Path.{_≡_, refl, sym, ap, _∙_, subst}
 use mathlib.Core.Logic.{_⊎_, inl, inr}
-use mathlib.Core.Bool.{Bool, true, false, cond, _||_}
-use Prim.Native.Nat.{ℕ, suc, _+_, _/_, _<_, _≤_}
+use mathlib.Core.Bool.{Bool, true, false, cond, _||_, false≢true}
+use Prim.Native.Nat.{ℕ, suc, _+_, _-_, _/_, _<_, _≤_}
 use native.Mathlib.Nat as Nat
 use native.Mathlib.Omega.{arith}
 use mathlib.Core.List.{List, [], _∷_, _++_, append-nil, append-assoc}
-use lib.Dec.{leb, ltb}
-use lib.ListN.{length}
+use lib.Dec.{eqb, leb, ltb}
+use lib.ListN.{length, take}
 use borrow.Author.Tests.{le-ltb, lt-ltb, ltb-true, ltb-false, le-leb}
 use Rattle.format.specs.Digits.{Below}
 use Rattle.drawing.specs.declared.Answer.{Answer}
 use Rattle.drawing.specs.Limits.{lengthLimit, depthLimit}
-use Rattle.drawing.specs.Reading.{Reading, drawing, refusal, drawingOf}
-use Rattle.drawing.specs.Drawing.{Drawing, IsFile, Acceptable}
+use Rattle.format.specs.Parse.{parse}
+use Rattle.drawing.specs.Reading.{bytes, Reading, drawing, refusal, reading, drawingOf}
+use Rattle.drawing.specs.Drawing.{Drawing, file, IsFile, Acceptable}
 use Rattle.drawing.specs.Refusal.{Refused}
 use Rattle.drawing.specs.Fields.{unless, orElse}
 use Rattle.drawing.specs.Table.{rowWidth}
@@ -22,7 +23,10 @@ use Rattle.drawing.specs.Computed.{readResult, readFrom}
 use Rattle.laws.specs.DrawingLaws.{drawing-of-bytes, refusal-of-bytes}
 use Rattle.pieces.specs.declared.Session.{Session}
 use Rattle.pieces.specs.Verdict.{verdictFrom, verdictOf}
-use Rattle.pieces.specs.Session.{Going, Faulty, Within, Stands, verdictNow, stopped}
+use Rattle.pieces.specs.Tally.{plus, tallied}
+use Rattle.pieces.specs.TallyLaws.{plus-zero}
+use Rattle.pieces.specs.Parts.{headOn, restAt, rest}
+use Rattle.pieces.specs.Session.{standing, Going, Faulty, Within, Stands, verdictNow, stopped}
 use Rattle.pieces.specs.SessionPromises.{unfit, spend, Opens, Pieces, Verdict, verdictIn, Verdicts}
 
 -- ---- any list of pieces
@@ -99,3 +103,72 @@ verdict-reads bs below {r} is =
         ap (λ t. orElse (unless t 14) (unless (leb (wordCount d) (length bodies)) 15)) (le-leb (rowsOf d) (length contents / rowWidth) (subst (λ n. n ≤ length contents / rowWidth) rows-is rows))
         ∙ ap (λ t. unless t 15) (le-leb (wordCount d) (length bodies) (subst (λ n. n ≤ length bodies) words-is words)) in
         so ∙ sym (ap (λ q. readFrom q (length bs) contents bodies .answer) e ∙ ap (λ n. stored n d (length bs) contents bodies .answer) none-lacks)
+
+-- ---- opening
+
+-- A session that has been given nothing, whatever its members and its buffer hold.
+pub opened-stands : (s : Session) → s .depth ≡ 0 → s .bytes ≡ 0 → s .number ≡ 2 → s .offset ≡ 0 → s .rows ≡ 0 → s .words ≡ 0 → s .stage ≡ 0 → s .held ≡ 0 → Stands [] s
+unfolding restAt
+opened-stands s depth bytes-are number offset rows words stage held =
+    record {
+      units = tt;
+      shallow = omega arith;
+      within = λ short.
+          record {
+            counted = bytes-are;
+            now = ap (λ n. cond (eqb n 0) (answer 0 (s .bytes) (s .rows) (s .words - s .rows - 4)) (answer n (s .offset) 0 0)) number ∙ ap (λ o. answer 2 o 0 0) offset;
+            one-of =
+                inl (record {
+                  on = omega arith;
+                  may-open = λ e. absurd (omega arith);
+                  few-held = (omega arith, omega arith);
+                  few-words = (omega arith, omega arith);
+                  number-now = omega arith;
+                  same = λ more.
+                      sym (plus-zero (tallied (headOn file) more))
+                      ∙ ap (λ w. plus w (tallied (headOn file) more)) (sym words)
+                      ∙ ap (λ n. plus (s .words) (tallied (restAt n (standing s)) more)) (sym stage)
+                      ∙ ap (λ n. plus (s .words) (tallied (rest (standing s)) (take n (s .buffer) ++ more))) (sym held);
+                });
+          };
+      beyond = λ long. absurd (omega arith);
+    }
+
+-- ---- the verdict of a session that stands for bytes
+
+pub stands-verdict : {bs : List ℕ} {s : Session} → Stands bs s → verdictIn s ≡ verdictOf bs
+stands-verdict {bs} {s} h = by (ltb lengthLimit (length bs)) refl
+  where
+    by : (t : Bool) → ltb lengthLimit (length bs) ≡ t → verdictIn s ≡ verdictOf bs
+    by true e =
+        let long = ltb-true lengthLimit (length bs) e in
+        let is = h .beyond long in
+        ap (λ t. cond t (answer 1 lengthLimit 0 0) (cond (ltb (s .number) 14) (verdictNow s) (answer 2 0 0 0))) (lt-ltb lengthLimit (s .bytes) (omega arith))
+        ∙ sym (ap (λ t. verdictFrom (cond t (refusal 1 lengthLimit) (reading (length bs) (parse bytes file bs))) (length bs)) e)
+    by false e =
+        let short = ltb-false lengthLimit (length bs) e in
+        let w = h .within short in
+        let is = w .counted in
+        ap (λ t. cond t (answer 1 lengthLimit 0 0) (cond (ltb (s .number) 14) (verdictNow s) (answer 2 0 0 0))) (le-ltb lengthLimit (s .bytes) (omega arith))
+        ∙ ap (λ t. cond t (verdictNow s) (answer 2 0 0 0)) (lt-ltb (s .number) 14 (few (w .one-of)))
+        ∙ w .now
+      where
+        few : Going bs s ⊎ Faulty bs s → s .number < 14
+        few (inl g) = g .number-now
+        few (inr f) = f .some .1
+
+pub verdicts-refused : {s : Session} {r : Answer} → unfit s ≡ true → r ≡ answer 22 0 0 0 → Verdicts s s r
+verdicts-refused {s} {r} bad is =
+    record {
+      refused = λ e. (is, refl);
+      given = λ e. absurd (false≢true (sym e ∙ bad));
+      stands = λ bs h. absurd (false≢true (sym (stands-fit h) ∙ bad));
+    }
+
+pub verdicts-given : {s s′ : Session} {r : Answer} → unfit s ≡ false → r ≡ verdictIn s → s′ ≡ spend s → Verdicts s s′ r
+verdicts-given {s} fit is spends =
+    record {
+      refused = λ e. absurd (false≢true (sym fit ∙ e));
+      given = λ e. (is, spends);
+      stands = λ bs h. verdict-reads bs (h .units) (is ∙ stands-verdict h);
+    }

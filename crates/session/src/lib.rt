@@ -4,4 +4,5 @@ pub mod parts;
 pub mod place;
 pub mod run;
 pub mod step;
+pub mod verdict;
 pub mod whole;

@@ -36,7 +36,7 @@ same-length c = c .before .before .before .loop .inv .sized
 
 -- src/run.rt:46:13
 returns : tie.Need-returns Inv-loop μ-loop
-returns c = 
+returns c =
     let at-if1 = c .before in
     let at-is-over = at-if1 .before in
     let at-loop = at-is-over .before in
@@ -44,7 +44,7 @@ returns c =
 
 -- src/run.rt:54:13
 step-requires : tie.Need-step-requires Inv-loop μ-loop
-step-requires c κs = 
+step-requires c κs =
     let at-if1 = c .before in
     let at-is-over = at-if1 .before in
     let at-loop = at-is-over .before in
@@ -57,7 +57,7 @@ same-length-2 c = search needs
 
 -- src/run.rt:56:13
 returns-2 : tie.Need-returns-2 Inv-loop μ-loop
-returns-2 c = 
+returns-2 c =
     let at-if2 = c .before in
     let at-step = at-if2 .before .before .before .before in
     let at-loop = at-step .before .before .before .before in
@@ -65,14 +65,14 @@ returns-2 c =
 
 -- src/run.rt:44:5
 loop-less : tie.Need-loop-less Inv-loop μ-loop
-loop-less c = 
+loop-less c =
     let at-if2 = c .before in
     let at-step = at-if2 .before .before .before .before in
     let left = at-if2 .if2 .left in let moves = at-step .step .ensures .steps .moves (omega arith) in let a = moves .0 in let b = moves .1 in omega arith
 
 -- src/run.rt:44:5
 loop-again : tie.Need-loop-again Inv-loop μ-loop
-loop-again c = 
+loop-again c =
     let at-if2 = c .before in
     let at-step = at-if2 .before .before .before .before in
     let at-loop = at-step .before .before .before .before in
