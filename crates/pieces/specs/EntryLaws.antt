@@ -34,10 +34,10 @@ use Rattle.drawing.specs.Drawing.{Drawing, version, drawingFrom, file, outerGro
 use Rattle.drawing.specs.Table.{rows, rowsAll}
 use Rattle.pieces.specs.declared.Inside.{Inside}
 use Rattle.pieces.specs.Going.{led}
-use Rattle.pieces.specs.Parts.{endOn, partThen, partsOn, inside, groups, headOn, outerOn, Standing, restAt}
+use Rattle.pieces.specs.Parts.{endOn, partThen, partsOn, inside, groups, opening, headOn, outerOn, Standing, restAt}
 use Rattle.pieces.specs.PartLaws.{withParts, next-part}
 use Rattle.pieces.specs.LeafLaws.{arrow-path, marked-path, text-parts, along-parts, bitmap-parts}
-use Rattle.pieces.specs.GroupLaws.{group-ends, object-next, object-alone, object-nested, group-opens, outer-opens}
+use Rattle.pieces.specs.GroupLaws.{group-ends, object-next, object-alone, object-nested, count-opens, group-opens, outer-opens, groups-agree}
 
 -- ---- leaves
 
@@ -126,13 +126,13 @@ module _ (s : Standing) where
   unfolding restAt
   rest-settings = refl
 
-  pub rest-outer : 0 < length (s .members) → restAt 4 s ≡ ask outerId (λ c. restAt 5 (counting s 0 (s .members) 1))
+  pub rest-outer : restAt 4 s ≡ ask outerId (λ c. restAt 5 (counting s 0 (s .members) 1))
   unfolding restAt
-  rest-outer there = ap (λ X. ask outerId (λ c. ask memberCount X)) (fun-ext (λ n. outer-opens (s .version) (s .members) n there))
+  rest-outer = ap (λ X. ask outerId (λ c. ask memberCount X)) (fun-ext (λ n. outer-opens (s .version) (s .members) n))
 
-  pub rest-count : restAt 5 s ≡ ask memberCount (λ n. restAt 6 (among s (suc (s .depth)) (set (s .members) (s .depth) n) (s .rows) 0))
+  pub rest-count : s .depth < length (s .members) → restAt 5 s ≡ ask memberCount (λ n. restAt 6 (among s (suc (s .depth)) (set (s .members) (s .depth) n) (s .rows) 0))
   unfolding restAt inside partsOn partThen
-  rest-count = refl
+  rest-count there = ap (ask memberCount) (fun-ext (λ n. count-opens (s .version) (s .members) (s .depth) (s .rows) n there))
 
 -- ---- objects
 
@@ -182,7 +182,32 @@ module _ (s : Standing) (nothing-left : inside (s .version) (s .within) ≡ done
       unfolding restAt
       leaf-on c is = led (leafBody (s .version) c) (then 1) ∙ ap (λ i. followed i (λ u. then 1)) (leaf-inside (s .version) c (s .within) is)
 
-      pub group-on : {deep : ℕ} → depthLimit - suc d ≡ suc deep → suc d < length (s .members) → groupOn deep ≡ restAt 5 (counting s (suc d) (set (s .members) d m) (s .rows + 1))
+      pub group-on : {deep : ℕ} → depthLimit - suc d ≡ suc deep → groupOn deep ≡ restAt 5 (counting s (suc d) (set (s .members) d m) (s .rows + 1))
       unfolding restAt groupOn
-      group-on {deep} more deeper =
-          ap (ask memberCount) (fun-ext (λ n. group-opens (s .version) (set (s .members) d m) d (s .rows) n deep (rw length-set deeper) more))
+      group-on {deep} more = ap (ask memberCount) (fun-ext (λ n. group-opens (s .version) (set (s .members) d m) d (s .rows) n deep more))
+
+-- Only the members left of the groups that are open matter.
+pub rest-agree : (s : Standing) (ms : List ℕ) → s .stage ≤ 6 → ((i : ℕ) → i < s .depth → getD (s .members) i 0 ≡ getD ms i 0)
+    → restAt (s .stage) s ≡ restAt (s .stage) (record { version = s .version; stage = s .stage; depth = s .depth; members = ms; rows = s .rows; within = s .within })
+unfolding restAt
+rest-agree s ms staged same = by (eqb (s .stage) 0) (eqb (s .stage) 1) (eqb (s .stage) 2) (eqb (s .stage) 3) (eqb (s .stage) 4) (eqb (s .stage) 5)
+  where
+    opens : opening (s .version) (s .members) (s .depth) (s .rows) ≡ opening (s .version) ms (s .depth) (s .rows)
+    opens =
+        fun-ext (λ n. ap (λ K. script (repeat n (object (s .version) (depthLimit - suc (s .depth))) .format) K)
+        (fun-ext (λ os. ap (λ K. script (objectEnd (s .version) .format) K) (fun-ext (λ t. groups-agree (s .version) (s .members) ms (s .depth) (s .rows + rowsAll (ofList os)) same)))))
+
+    around : followed (inside (s .version) (s .within)) (λ u. groups (s .version) (s .members) (s .depth) (s .rows)) ≡ followed (inside (s .version) (s .within)) (λ u. groups (s .version) ms (s .depth) (s .rows))
+    around = ap (λ G. followed (inside (s .version) (s .within)) (λ u. G)) (groups-agree (s .version) (s .members) ms (s .depth) (s .rows) same)
+
+    by : (a b c d e f : Bool)
+        → _≡_ {A = Script ℕ}
+        (elim a [ true ↦ headOn file | false ↦ elim b [ true ↦ headOn (constant versionLength 3 version-length-only (drawingFrom version)) | false ↦ elim c [ true ↦ headOn (drawingFrom version) | false ↦ elim d [ true ↦ script (settings (s .version) .format) (λ t. outerOn (s .version)) | false ↦ elim e [ true ↦ outerOn (s .version) | false ↦ elim f [ true ↦ ask memberCount (opening (s .version) (s .members) (s .depth) (s .rows)) | false ↦ followed (inside (s .version) (s .within)) (λ u. groups (s .version) (s .members) (s .depth) (s .rows)) ] ] ] ] ] ])
+        (elim a [ true ↦ headOn file | false ↦ elim b [ true ↦ headOn (constant versionLength 3 version-length-only (drawingFrom version)) | false ↦ elim c [ true ↦ headOn (drawingFrom version) | false ↦ elim d [ true ↦ script (settings (s .version) .format) (λ t. outerOn (s .version)) | false ↦ elim e [ true ↦ outerOn (s .version) | false ↦ elim f [ true ↦ ask memberCount (opening (s .version) ms (s .depth) (s .rows)) | false ↦ followed (inside (s .version) (s .within)) (λ u. groups (s .version) ms (s .depth) (s .rows)) ] ] ] ] ] ])
+    by true b c d e f = refl
+    by false true c d e f = refl
+    by false false true d e f = refl
+    by false false false true e f = refl
+    by false false false false true f = refl
+    by false false false false false true = ap (ask memberCount) opens
+    by false false false false false false = around

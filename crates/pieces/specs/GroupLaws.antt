@@ -17,7 +17,7 @@ use Rattle.drawing.specs.Object.{Object, leaf, group, Objects, ofList}
 use Rattle.drawing.specs.LeafLayout.{isLeaf, leafBody, objectEnd}
 use Rattle.drawing.specs.ObjectLayout.{object, groupBody}
 use Rattle.drawing.specs.Table.{rows, rowsAll}
-use Rattle.pieces.specs.Parts.{groups, outerOn}
+use Rattle.pieces.specs.Parts.{groups, opening}
 
 -- The number at a place that is not looked at does not matter.
 groups-set : (v : ℕ) (ms : List ℕ) (k m d r : ℕ) → d ≤ k → groups v (set ms k m) d r ≡ groups v ms d r
@@ -69,18 +69,21 @@ module _ (v : ℕ) (K : ℕ → Script ℕ) where
       (ask memberCount (λ n. script (repeat n (object v deep) .format) (λ os. script (objectEnd v .format) (λ t. K (suc (rowsAll (ofList os))))))))
   object-nested deep = refl
 
--- The members of a group that opens, and what then is left of the groups around it.
-pub group-opens : (v : ℕ) (ms : List ℕ) (d r n deep : ℕ) → suc d < length ms → depthLimit - suc d ≡ suc deep
-    → script (repeat n (object v deep) .format) (λ os. script (objectEnd v .format) (λ t. groups v ms (suc d) (r + suc (rowsAll (ofList os))))) ≡ groups v (set ms (suc d) n) (suc (suc d)) (r + 1)
+-- A group that opens, with its count as one more number of members left.
+pub count-opens : (v : ℕ) (ms : List ℕ) (d r n : ℕ) → d < length ms → opening v ms d r n ≡ groups v (set ms d n) (suc d) r
 unfolding groups
-group-opens v ms d r n deep there deeper =
+count-opens v ms d r n there =
+    ap (λ K. script (repeat n (object v (depthLimit - suc d)) .format) K)
+    (fun-ext (λ os. ap (λ K. script (objectEnd v .format) K) (fun-ext (λ t. sym (groups-set v ms d n d (r + rowsAll (ofList os)) (Nat.le-refl d))))))
+    ∙ ap (λ m. script (repeat m (object v (depthLimit - suc d)) .format) (λ os. script (objectEnd v .format) (λ t. groups v (set ms d n) d (r + rowsAll (ofList os))))) (sym (getD-set-same ms d n 0 there))
+
+-- A group among the members of another, behind its count.
+pub group-opens : (v : ℕ) (ms : List ℕ) (d r n deep : ℕ) → depthLimit - suc d ≡ suc deep
+    → script (repeat n (object v deep) .format) (λ os. script (objectEnd v .format) (λ t. groups v ms (suc d) (r + suc (rowsAll (ofList os))))) ≡ opening v ms (suc d) (r + 1) n
+group-opens v ms d r n deep deeper =
     ap (λ x. script (repeat n (object v x) .format) (λ os. script (objectEnd v .format) (λ t. groups v ms (suc d) (r + suc (rowsAll (ofList os)))))) depth-is
     ∙ ap (λ K. script (repeat n (object v (depthLimit - suc (suc d))) .format) K)
-    (fun-ext (λ os. ap (λ K. script (objectEnd v .format) K) (fun-ext (λ t.
-    sym (groups-set v ms (suc d) n (suc d) (r + suc (rowsAll (ofList os))) (Nat.le-refl (suc d)))
-    ∙ ap (groups v (set ms (suc d) n) (suc d)) (one-more (rowsAll (ofList os)))))))
-    ∙ ap (λ m. script (repeat m (object v (depthLimit - suc (suc d))) .format) (λ os. script (objectEnd v .format) (λ t. groups v (set ms (suc d) n) (suc d) (r + 1 + rowsAll (ofList os)))))
-    (sym (getD-set-same ms (suc d) n 0 there))
+    (fun-ext (λ os. ap (λ K. script (objectEnd v .format) K) (fun-ext (λ t. ap (groups v ms (suc d)) (one-more (rowsAll (ofList os)))))))
   where
     depth-is : deep ≡ depthLimit - suc (suc d)
     depth-is = omega arith
@@ -89,12 +92,20 @@ group-opens v ms d r n deep there deeper =
     one-more x = omega arith
 
 -- The outer group, behind its id and its count.
-pub outer-opens : (v : ℕ) (ms : List ℕ) (n : ℕ) → 0 < length ms
-    → script (repeat n (object v (depthLimit - 1)) .format) (λ os. script (objectEnd v .format) (λ t. end (suc (rowsAll (ofList os))))) ≡ groups v (set ms 0 n) 1 1
+pub outer-opens : (v : ℕ) (ms : List ℕ) (n : ℕ)
+    → script (repeat n (object v (depthLimit - 1)) .format) (λ os. script (objectEnd v .format) (λ t. end (suc (rowsAll (ofList os))))) ≡ opening v ms 0 1 n
 unfolding groups
-outer-opens v ms n there =
+outer-opens v ms n =
     ap (λ K. script (repeat n (object v (depthLimit - 1)) .format) K) (fun-ext (λ os. ap (λ K. script (objectEnd v .format) K) (fun-ext (λ t. ap (λ x. end x) (one-more (rowsAll (ofList os)))))))
-    ∙ ap (λ m. script (repeat m (object v (depthLimit - 1)) .format) (λ os. script (objectEnd v .format) (λ t. end (1 + rowsAll (ofList os))))) (sym (getD-set-same ms 0 n 0 there))
   where
     one-more : (x : ℕ) → suc x ≡ 1 + x
     one-more x = omega arith
+
+-- Only the members left of the groups that are open matter.
+pub groups-agree : (v : ℕ) (ms ms′ : List ℕ) (d r : ℕ) → ((i : ℕ) → i < d → getD ms i 0 ≡ getD ms′ i 0) → groups v ms d r ≡ groups v ms′ d r
+unfolding groups
+groups-agree v ms ms′ zero r same = refl
+groups-agree v ms ms′ (suc d) r same =
+    ap (λ n. script (repeat n (object v (depthLimit - suc d)) .format) (λ os. script (objectEnd v .format) (λ t. groups v ms d (r + rowsAll (ofList os))))) (same d (omega arith))
+    ∙ ap (λ K. script (repeat (getD ms′ d 0) (object v (depthLimit - suc d)) .format) K)
+    (fun-ext (λ os. ap (λ K. script (objectEnd v .format) K) (fun-ext (λ t. groups-agree v ms ms′ d (r + rowsAll (ofList os)) (λ i less. same i (omega arith))))))

@@ -4,7 +4,7 @@ use mathlib.Core.Bool.{Bool, true, false, cond}
 use mathlib.Core.Option.{Option, none, some}
 use Prim.Native.Nat.{ℕ, zero, suc, _+_, _-_, _/_, _%_}
 use mathlib.Core.List.{List, [], _∷_}
-use lib.ListN.{getD, set}
+use lib.ListN.{getD}
 use lib.Dec.{eqb}
 use Rattle.format.specs.Kind.{Kind, char}
 use Rattle.format.specs.Script.{Script, end, ask}
@@ -167,6 +167,11 @@ groups v ms (suc d) r =
     script (repeat (getD ms d 0) (object v (depthLimit - suc d)) .format) (λ os.
     script (objectEnd v .format) (λ t. groups v ms d (r + rowsAll (ofList os))))
 
+-- The same behind the count of a group that opens, within those.
+abbrev pub opening : (version : ℕ) (members : List ℕ) (depth rows count : ℕ) → Script ℕ
+opening v ms d r n =
+    script (repeat n (object v (depthLimit - suc d)) .format) (λ os. script (objectEnd v .format) (λ t. groups v ms d (r + rowsAll (ofList os))))
+
 -- The rows of a drawing, from one of its first fields on.
 abbrev pub headOn : Layout Drawing → Script ℕ
 headOn L = script (L .format) (λ d. end (rowsOf d))
@@ -204,7 +209,7 @@ restAt stage s =
                               | true ↦ outerOn (s .version)
                               | false ↦
                                   elim (eqb stage 5) [
-                                    | true ↦ ask F.memberCount (λ n. groups (s .version) (set (s .members) (s .depth) n) (suc (s .depth)) (s .rows))
+                                    | true ↦ ask F.memberCount (opening (s .version) (s .members) (s .depth) (s .rows))
                                     | false ↦
                                         followed (inside (s .version) (s .within)) (λ u. groups (s .version) (s .members) (s .depth) (s .rows))
                                   ]

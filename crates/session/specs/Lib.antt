@@ -5,3 +5,4 @@ pub mod Told
 pub mod Insides
 pub mod Objects
 pub mod Running
+pub mod Advancing

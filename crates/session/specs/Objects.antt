@@ -168,12 +168,12 @@ pub place-head : {p : Place} {ms us : List ℕ} {at to : ℕ} {r : PlaceStep} �
 place-head {ms = ms} some head = record { steps = head .steps ms some; kept = λ off. refl; sized = refl; sound = head .sound; few-rows = head .few-rows }
 
 -- A group's count.
-module _ (p : Place) (ms : List ℕ) (counting-now : p .stage ≡ 5) where
+module _ (p : Place) (ms : List ℕ) (counting-now : p .stage ≡ 5) (deep-enough : p .depth < length ms) where
   abbrev countThen : ℕ → Script ℕ
   countThen n = restAt 6 (among (standingOf p ms) (suc (p .depth)) (set ms (p .depth) n) (p .rows) 0)
 
   pub count-asks : rest (standingOf p ms) ≡ ask memberCount countThen
-  count-asks = here p counting-now ms ∙ rest-count (standingOf p ms)
+  count-asks = here p counting-now ms ∙ rest-count (standingOf p ms) deep-enough
 
   -- With so many members it is open.
   abbrev pub openedGroup : Place
@@ -274,7 +274,7 @@ module _ (p : Place) (ms : List ℕ) (objects-now : p .stage ≡ 6) (nothing-lef
             let more : depthLimit - suc d ≡ suc (depthLimit - suc d - 1) = omega (arith, less) in
             ap (λ c. cond (isLeaf (p .version) c) (leafOn s nothing-left depth-is left-is there c) (groupOn s nothing-left depth-is left-is there (depthLimit - suc d - 1))) is-group
             ∙ ap (λ t. cond t (leafOn s nothing-left depth-is left-is there 71) (groupOn s nothing-left depth-is left-is there (depthLimit - suc d - 1))) (group-no-leaf (p .version))
-            ∙ group-on s nothing-left depth-is left-is there more (omega (arith, less, room-for, depth-is))
+            ∙ group-on s nothing-left depth-is left-is there more
             ∙ ap (λ n. restAt 5 (counting s n fewer (p .rows + 1))) (sym depth-is)
         by false e = let most = ltb-false (p .depth) depthLimit e in absurd (omega (arith, less))
 
@@ -309,15 +309,15 @@ pub between-done : (p : Place) → Between (p .inside) → inside (p .version) (
 between-done p between = none-inside (p .version) (p .inside) (between .no-run) (between .digit) (between .small)
 
 -- A group's count.
-module _ (p : Place) (ms : List ℕ) (counting-now : p .stage ≡ 5) {us : List ℕ} (below : Below 256 us) {at to : ℕ} (inside-them : at ≤ length us) {m m′ : List ℕ} {q : FieldPass} (asked : Asked memberCount way us m m′ at to q) where
-  pub count-counted : StepsTo (rest (standingOf p ms)) (countThen p ms counting-now (q .value)) us at to (q .pass .at) (q .pass .to)
-  count-counted = steps-same (count-asks p ms counting-now) refl (field-steps memberCount (omega arith) (omega arith) (countThen p ms counting-now) below inside-them asked)
+module _ (p : Place) (ms : List ℕ) (counting-now : p .stage ≡ 5) (deep-enough : p .depth < length ms) {us : List ℕ} (below : Below 256 us) {at to : ℕ} (inside-them : at ≤ length us) {m m′ : List ℕ} {q : FieldPass} (asked : Asked memberCount way us m m′ at to q) where
+  pub count-counted : StepsTo (rest (standingOf p ms)) (countThen p ms counting-now deep-enough (q .value)) us at to (q .pass .at) (q .pass .to)
+  count-counted = steps-same (count-asks p ms counting-now deep-enough) refl (field-steps memberCount (omega arith) (omega arith) (countThen p ms counting-now deep-enough) below inside-them asked)
 
   pub count-went : q .pass .at < refused → p .depth < depthLimit → {i : Inside} → i ≡ withParts (p .inside) 0 → {r : PlaceStep}
       → r ≡ record { place = record { stage = 6; version = p .version; depth = p .depth + 1; rows = p .rows; inside = i }; at = q .pass .at; to = q .pass .to }
       → PlaceSteps p ms (set ms (p .depth) (q .value)) us at to r
   count-went on less {i} inside-is is =
-      place-went on (steps-same refl (count-opens p ms counting-now (q .value)) count-counted) (length-set ms (p .depth) (q .value))
+      place-went on (steps-same refl (count-opens p ms counting-now deep-enough (q .value)) count-counted) (length-set ms (p .depth) (q .value))
       (record { staged = omega arith; shallow = omega arith; may-open = λ e. absurd (omega arith) }) (omega arith)
       (is ∙ ap {B = PlaceStep} (λ i. record { place = record { stage = 6; version = p .version; depth = p .depth + 1; rows = p .rows; inside = i }; at = q .pass .at; to = q .pass .to }) inside-is)
 

@@ -36,7 +36,7 @@ returns c =
     let at-count = at-if1 .before .before .before .before in
     let at-shared-slice-known = at-count .before .before .before in
     let at-args = at-shared-slice-known .before in
-    place-gone (at-if1 .if1 .taken) (count-counted (at-args .args .p) (at-args .args .members .now) (at-args .pre .1 .1) (known-below w8 (at-args .args .src .now) (at-shared-slice-known .shared-slice-known .given)) (at-args .pre .1 .0) (at-count .count .ensures .asks K.integer refl refl)) (c .placed .ensures)
+    place-gone (at-if1 .if1 .taken) (count-counted (at-args .args .p) (at-args .args .members .now) (at-args .pre .1 .1) (let full = at-args .pre .1 .3 in let less = at-args .pre .1 .2 in omega arith) (known-below w8 (at-args .args .src .now) (at-shared-slice-known .shared-slice-known .given)) (at-args .pre .1 .0) (at-count .count .ensures .asks K.integer refl refl)) (c .placed .ensures)
 
 -- src/place.rt:195:17
 cast-depth : tie.Need-cast-depth
@@ -78,7 +78,7 @@ returns-2 c =
     let at-count = at-if1 .before .before .before .before in
     let at-shared-slice-known = at-count .before .before .before in
     let at-args = at-shared-slice-known .before in
-    let left = at-if1 .if1 .left in count-went (at-args .args .p) (at-args .args .members .now) (at-args .pre .1 .1) (known-below w8 (at-args .args .src .now) (at-shared-slice-known .shared-slice-known .given)) (at-args .pre .1 .0) (at-count .count .ensures .asks K.integer refl refl) (omega arith) (at-args .pre .1 .2) (at-parts-only .parts-only .ensures) (c .placed2 .ensures)
+    let left = at-if1 .if1 .left in count-went (at-args .args .p) (at-args .args .members .now) (at-args .pre .1 .1) (let full = at-args .pre .1 .3 in let less = at-args .pre .1 .2 in omega arith) (known-below w8 (at-args .args .src .now) (at-shared-slice-known .shared-slice-known .given)) (at-args .pre .1 .0) (at-count .count .ensures .asks K.integer refl refl) (omega arith) (at-args .pre .1 .2) (at-parts-only .parts-only .ensures) (c .placed2 .ensures)
 
 pub count-step-spec : {M : Type 1} → statement M
 count-step-spec =

@@ -22,7 +22,7 @@ returns : tie.Need-returns
 returns c =
     let at-outer-id = c .before .before in
     let at-args = at-outer-id .before .before in
-    head-told (at-args .args .p) (at-args .pre .1 .1) outerId (record { stage = 5; version = at-args .args .p .version; depth = 0; rows = 1; inside = at-args .args .p .inside }) (λ ms some. rest-outer (standingOf (at-args .args .p) ms) some) (record { staged = omega arith; shallow = omega arith; may-open = λ e. omega arith }) (omega arith) (at-outer-id .outer-id .ensures) (c .placed .ensures)
+    head-told (at-args .args .p) (at-args .pre .1 .1) outerId (record { stage = 5; version = at-args .args .p .version; depth = 0; rows = 1; inside = at-args .args .p .inside }) (λ ms some. rest-outer (standingOf (at-args .args .p) ms)) (record { staged = omega arith; shallow = omega arith; may-open = λ e. omega arith }) (omega arith) (at-outer-id .outer-id .ensures) (c .placed .ensures)
 
 pub outer-step-spec : {M : Type 1} → statement M
 outer-step-spec = tie.close (tie.spec outer-id-requires placed-requires returns)

@@ -26,7 +26,7 @@ answered-requires c κs = search needs
 
 -- src/verdict.rt:110:9
 returns : tie.Need-returns
-returns c = 
+returns c =
     let at-if1 = c .before in
     let at-args = at-if1 .before .before in
     c .answered .ensures ∙ sym (ap (λ t. cond t (answer 1 65535 0 0) (cond (ltb (at-args .args .s .number) 14) (verdictNow (at-args .args .s)) (answer 2 0 0 0))) (lt-ltb 65535 (at-args .args .s .bytes) (at-if1 .if1 .taken)))
@@ -37,7 +37,7 @@ answer-now-requires c κs = search needs
 
 -- src/verdict.rt:113:9
 returns-2 : tie.Need-returns-2
-returns-2 c = 
+returns-2 c =
     let at-if2 = c .before in
     let at-if1 = at-if2 .before .before in
     let at-args = at-if1 .before .before in
@@ -49,7 +49,7 @@ answered-requires-2 c κs = search needs
 
 -- src/verdict.rt:106:1
 returns-3 : tie.Need-returns-3
-returns-3 c = 
+returns-3 c =
     let at-if2 = c .before in
     let at-if1 = at-if2 .before .before in
     let at-args = at-if1 .before .before in

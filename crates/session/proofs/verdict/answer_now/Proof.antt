@@ -18,7 +18,7 @@ table-words-requires c κs = search needs
 
 -- src/verdict.rt:95:9
 returns : tie.Need-returns
-returns c = 
+returns c =
     let at-if1 = c .before in
     let at-args = at-if1 .before .before in
     ap {B = Answer} (λ w. answer 0 (at-args .args .s .bytes) (at-args .args .s .rows) w) (c .table-words .ensures) ∙ sym (ap (λ t. cond t (answer 0 (at-args .args .s .bytes) (at-args .args .s .rows) (at-args .args .s .words - at-args .args .s .rows - 4)) (answer (at-args .args .s .number) (at-args .args .s .offset) 0 0)) (eq-eqb (at-args .args .s .number) 0 (at-if1 .if1 .taken)))
@@ -29,7 +29,7 @@ answered-requires c κs = search needs
 
 -- src/verdict.rt:91:1
 returns-2 : tie.Need-returns-2
-returns-2 c = 
+returns-2 c =
     let at-if1 = c .before in
     let at-args = at-if1 .before .before in
     c .answered .ensures ∙ sym (ap (λ t. cond t (answer 0 (at-args .args .s .bytes) (at-args .args .s .rows) (at-args .args .s .words - at-args .args .s .rows - 4)) (answer (at-args .args .s .number) (at-args .args .s .offset) 0 0)) (ne-eqb (at-args .args .s .number) 0 (at-if1 .if1 .left)))

@@ -22,7 +22,7 @@ cast-result c = search needs
 
 -- src/verdict.rt:67:1
 returns-2 : tie.Need-returns-2
-returns-2 c = 
+returns-2 c =
     let at-if1 = c .before in
     let at-args = at-if1 .before .before in
     sym (ap (λ t. t || ltb 65536 (at-args .args .s .bytes)) (le-ltb 16 (at-args .args .s .depth) (at-if1 .if1 .left)))

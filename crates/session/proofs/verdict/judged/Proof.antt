@@ -32,7 +32,7 @@ answer-in-requires c κs = search needs
 
 -- src/verdict.rt:127:1
 returns-2 : tie.Need-returns-2
-returns-2 c = 
+returns-2 c =
     let at-spent = c .before in
     let at-if1 = at-spent .before in
     let at-is-unfit = at-if1 .before in
