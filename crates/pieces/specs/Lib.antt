@@ -18,3 +18,5 @@ pub mod Session
 pub mod SessionPromises
 pub mod SessionLaws
 pub mod EntryLaws
+pub mod Held
+pub mod HeldLaws

@@ -6,7 +6,7 @@ use mathlib.Core.Bool.{Bool, cond, _||_}
 use Prim.Native.Nat.{ℕ, suc, _+_, _-_, _<_, _≤_}
 use mathlib.Core.List.{List, _++_}
 use lib.Dec.{eqb, ltb}
-use lib.ListN.{length, take}
+use lib.ListN.{length}
 use Rattle.format.specs.Digits.{Below}
 use Rattle.drawing.specs.declared.Answer.{Answer}
 use Rattle.drawing.specs.Numbers.{accepted, tooLong}
@@ -17,6 +17,7 @@ use Rattle.pieces.specs.declared.Inside.{Inside}
 use Rattle.pieces.specs.declared.Session.{Session}
 use Rattle.pieces.specs.Tally.{plus, tallied}
 use Rattle.pieces.specs.Going.{room}
+use Rattle.pieces.specs.Held.{firstOf}
 use Rattle.pieces.specs.Parts.{Standing, headOn, rest}
 use Rattle.pieces.specs.Verdict.{verdictOf}
 
@@ -28,7 +29,7 @@ standing s =
     record { version = s .version; stage = s .stage; depth = s .depth; members = s .members; rows = s .rows; within = insideOf s }
 
 abbrev pub heldBytes : Session → List ℕ
-heldBytes s = take (s .held) (s .buffer)
+heldBytes s = firstOf (s .held) (s .buffer)
 
 -- The verdict, if no more bytes came.
 abbrev pub verdictNow : Session → Answer

@@ -7,7 +7,7 @@ use native.Mathlib.Nat as Nat
 use native.Mathlib.Omega.{arith}
 use mathlib.Core.List.{List, [], _∷_, _++_, append-nil, append-assoc}
 use lib.Dec.{eqb, leb, ltb}
-use lib.ListN.{length, take}
+use lib.ListN.{length}
 use borrow.Author.Tests.{le-ltb, lt-ltb, ltb-true, ltb-false, le-leb}
 use Rattle.format.specs.Digits.{Below}
 use Rattle.drawing.specs.declared.Answer.{Answer}
@@ -25,6 +25,7 @@ use Rattle.pieces.specs.declared.Session.{Session}
 use Rattle.pieces.specs.Verdict.{verdictFrom, verdictOf}
 use Rattle.pieces.specs.Tally.{plus, tallied}
 use Rattle.pieces.specs.TallyLaws.{plus-zero}
+use Rattle.pieces.specs.Held.{firstOf}
 use Rattle.pieces.specs.Parts.{headOn, restAt, rest}
 use Rattle.pieces.specs.Session.{standing, Going, Faulty, Within, Stands, verdictNow, stopped}
 use Rattle.pieces.specs.SessionPromises.{unfit, spend, Opens, Pieces, Verdict, verdictIn, Verdicts}
@@ -128,7 +129,7 @@ opened-stands s depth bytes-are number offset rows words stage held =
                       sym (plus-zero (tallied (headOn file) more))
                       ∙ ap (λ w. plus w (tallied (headOn file) more)) (sym words)
                       ∙ ap (λ n. plus (s .words) (tallied (restAt n (standing s)) more)) (sym stage)
-                      ∙ ap (λ n. plus (s .words) (tallied (rest (standing s)) (take n (s .buffer) ++ more))) (sym held);
+                      ∙ ap (λ n. plus (s .words) (tallied (rest (standing s)) (firstOf n (s .buffer) ++ more))) (sym held);
                 });
           };
       beyond = λ long. absurd (omega arith);

@@ -1,14 +1,12 @@
 -- What running a session over some bytes promises.
 use mathlib.Core.Path.{_≡_, refl, sym, ap, _∙_, subst}
 use mathlib.Core.Logic.{_⊎_, inl, inr}
-use mathlib.Core.Bool.{Bool, true, false, cond, true≢false}
+use mathlib.Core.Bool.{Bool, true, false, cond}
 use Prim.Native.Nat.{ℕ, zero, suc, _+_, _-_, _^_, _<_, _≤_}
 use native.Mathlib.Omega.{arith}
 use mathlib.Core.List.{List}
-use lib.Dec.{eqb, ltb}
-use lib.ListN.{length, drop, getD, set}
-use lib.Seq.{getD-set-same, getD-set-other}
-use borrow.Author.Tests.{eqb-true, eq-eqb}
+use lib.Dec.{ltb}
+use lib.ListN.{length, drop, getD}
 use Rattle.drawing.specs.Limits.{lengthLimit, depthLimit}
 use Rattle.ways.specs.Passes.{refused, Ready}
 use Rattle.pieces.specs.declared.Inside.{Inside}
@@ -71,21 +69,6 @@ pub begins : (s : Session) (us : List ℕ) (base : ℕ) → Tame s → base + le
 begins s us base tame short =
     let few = tame .few-words in
     record { short = omega arith; near = omega arith; inside = λ h. omega arith; few = λ h. omega arith }
-
--- One more of them is copied.
-pub copied-on : (from ms : List ℕ) (i : ℕ) → i < length ms → ((k : ℕ) → k < i → getD ms k 0 ≡ getD from k 0) → (k : ℕ) → k < i + 1 → getD (set ms i (getD from i 0)) k 0 ≡ getD from k 0
-copied-on from ms i there same k less = by (eqb k i) refl
-  where
-    by : (b : Bool) → eqb k i ≡ b → getD (set ms i (getD from i 0)) k 0 ≡ getD from k 0
-    by true e =
-        let is : k ≡ i = eqb-true k i e in
-        ap (λ k. getD (set ms i (getD from i 0)) k 0) is ∙ getD-set-same ms i (getD from i 0) 0 there ∙ ap (λ k. getD from k 0) (sym is)
-    by false e =
-        let other : k ≡ i → ⊥ = λ z. absurd (true≢false (sym (eq-eqb k i z) ∙ e)) in
-        getD-set-other ms i k (getD from i 0) 0 other ∙ same k (below k i less other)
-      where
-        below : (k i : ℕ) → k < i + 1 → (k ≡ i → ⊥) → k < i
-        below k i less other = omega arith
 
 -- What `after_run` returns.
 pub after-is : (s : Session) (ran : Ran) (ms : List ℕ) (base : ℕ) {n : ℕ} → n ≡ cond (ltb (ran .number) 14) (ran .number) 2

@@ -6,3 +6,4 @@ pub mod Insides
 pub mod Objects
 pub mod Running
 pub mod Advancing
+pub mod Feeding

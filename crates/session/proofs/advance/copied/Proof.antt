@@ -3,7 +3,7 @@ use Prim.Native.Nat.{ℕ, _+_, _-_, _<_, _≤_}
 use lib.ListN.{length, getD, set, length-set}
 use mathlib.Core.Path.{_≡_, refl, _∙_}
 use borrow.Author.Needs.{needs}
-use Rattle.session.specs.Advancing.{copied-on}
+use Rattle.pieces.specs.HeldLaws.{filled-on}
 use Rattle.session.proofs.advance.copied.Statement.{statement}
 use Rattle.session.proofs.advance.copied.Tie as tie
 use Rattle.session.proofs.advance.copied.Reads as reads
@@ -48,7 +48,7 @@ loop-again : tie.Need-loop-again Inv-loop μ-loop
 loop-again c =
     let at-loop = c .before in
     let at-args = at-loop .before in
-    let i = at-loop .loop .i in let ms = at-loop .loop .members in let sized = at-loop .loop .inv .1 in (omega arith, length-set ms i (getD (at-args .args .t1) i 0) ∙ sized, copied-on (at-args .args .t1) ms i (omega arith) (at-loop .loop .inv .2))
+    let i = at-loop .loop .i in let ms = at-loop .loop .members in let sized = at-loop .loop .inv .1 in (omega arith, length-set ms i (getD (at-args .args .t1) i 0) ∙ sized, filled-on (λ k. getD (at-args .args .t1) k 0) ms i (omega arith) (at-loop .loop .inv .2))
 
 -- src/advance.rt:69:1
 returns : tie.Need-returns Inv-loop μ-loop
