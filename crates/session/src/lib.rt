@@ -1,7 +1,6 @@
 // A checking session (R-6): a plan that comes in pieces is judged part by part, and not stored.
 pub mod advance;
 pub mod field;
-pub mod held;
 pub mod parts;
 pub mod place;
 pub mod run;
