@@ -73,3 +73,8 @@ pub fn shown<'a>(alternative: &'a [u32], plain: &'a [u32]) -> &'a [u32]
 {
     questions::shown::shown(alternative, plain)
 }
+
+pub use pieces::Session;
+pub fn open(session: &mut Session) -> Answer { session::session_open(session) }
+pub fn piece(session: &mut Session, bytes: &[u8]) -> Answer { session::session_piece(session, bytes) }
+pub fn verdict(session: &mut Session) -> Answer { session::session_verdict(session) }

@@ -86,3 +86,11 @@ pub extern "C" fn jdr_box(contents: &[u32], bodies: &[u32], row: u32) -> ExtentA
 {
     jdr::extent(contents, bodies, row)
 }
+
+use jdr::Session;
+#[no_mangle]
+pub extern "C" fn jdr_session_open(session: &mut Session) -> Answer { jdr::open(session) }
+#[no_mangle]
+pub extern "C" fn jdr_session_piece(session: &mut Session, bytes: &[u8]) -> Answer { jdr::piece(session, bytes) }
+#[no_mangle]
+pub extern "C" fn jdr_session_verdict(session: &mut Session) -> Answer { jdr::verdict(session) }
