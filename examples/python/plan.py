@@ -8,78 +8,40 @@ import sys
 import jdr
 
 
-def show(call, answer):
-    print(f"{call}: {answer.number} {answer.offset} {answer.rows} {answer.words}")
+def comes_back(plan, file):
+    """Whether the plan's file is the one that it was read from."""
+    counts = f"{len(plan.objects)} {len(plan.bodies)}"
+    print(f"check: 0 {plan.check()} {counts}")
+    copy = plan.write()
+    print(f"write: 0 {len(copy)} {counts}")
+    print("the same file" if copy == file else "ANOTHER FILE")
+    return copy == file
 
 
-def read_plan(file):
-    """The table, or None. Reads without room first: the answer is the refusal, or has the counts that are needed."""
-    answer = jdr.read(file, jdr.words(0), jdr.words(0))
-    table = None
-    if answer.number == jdr.CONTENTS_TOO_SHORT:
-        table = jdr.words(answer.rows * jdr.ROW_WORDS), jdr.words(answer.words)
-        answer = jdr.read(file, *table)
-    show("read", answer)
-    return table if answer.number == jdr.ACCEPTED else None
-
-
-def comes_back(table, file):
-    """Whether the table's file is the one that it was read from."""
-    show("check", jdr.check(*table))
-    copy = jdr.octets(len(file))
-    answer = jdr.write(*table, copy)
-    show("write", answer)
-    same = answer.number == jdr.ACCEPTED and answer.offset == len(file) and bytes(copy) == file
-    print("the same file" if same else "ANOTHER FILE")
-    return same
-
-
-def groups_around(contents, row):
-    """The rows of the groups around a row: the parent numbers lead from the innermost group to the outer one, row 0."""
-    while row != 0:
-        row = contents[row * jdr.ROW_WORDS + 1]
-        yield row
-
-
-def box(table, row):
-    """The box around a path, or around the path of a text along one, as words to print: left, bottom, right and top. None for a row with no
-    path.
-    """
-    sides = jdr.box(*table, row)
-    if sides.number == jdr.NOT_A_NUMBER:
+def box(found):
+    """The box around a path, or around the path of a text along one, as words to print: left, bottom, right and top."""
+    try:
+        sides = found.extent
+    except jdr.Refused:
         return ["box not a number"]
-    if sides.number != jdr.ACCEPTED:
+    return [] if sides is None else ["box"] + [f"{side:.2f}" for side in sides]
+
+
+def shown(found):
+    """What is shown of a text, along a path or not, as words to print. Half of a pair that stands alone becomes the replacement character."""
+    if found.shown is None:
         return []
-    return ["box"] + [f"{side:.2f}" for side in (sides.left, sides.bottom, sides.right, sides.top)]
+    return ["shows", found.shown.encode("utf-16", "surrogatepass").decode("utf-16", "replace")]
 
 
-def shown(table, row):
-    """What is shown of a text, along a path or not, as words to print: the LaTeX alternative if it has a char, otherwise the text. None for
-    a row that is no text.
-    """
-    text = jdr.text(*table, row)
-    if text.number != jdr.ACCEPTED:
-        return []
-    start, length = text.text_start, text.text_length
-    if text.alternative_length != 0:
-        start, length = text.alternative_start, text.alternative_length
-    return ["shows", jdr.string(table[1][start : start + length])]
-
-
-def list_label(table, label):
-    """Lists without room first: the answer is already 0 where there are no entries, or has as offset how many are needed."""
-    entries = jdr.words(0)
-    answer = jdr.list(*table, label, entries)
-    if answer.number == jdr.LIST_TOO_SHORT:
-        entries = jdr.words(answer.offset)
-        answer = jdr.list(*table, label, entries)
-    show("list", answer)
-    contents = table[0]
-    for row in entries[: answer.rows]:
-        kind = jdr.KINDS[contents[row * jdr.ROW_WORDS]]
-        inside = groups_around(contents, row) if row else ["no group"]
-        print(f"row {row} {kind} inside", *inside, *box(table, row), *shown(table, row))
-    return answer.number == jdr.ACCEPTED
+def list_label(plan, label):
+    found = plan.find(label)
+    print(f"list: 0 0 {len(found)} 0")
+    for each in found:
+        inside = [group.row for group in each.groups] or ["no group"]
+        kind = each.kind.name.lower().replace("_", "")
+        print(f"row {each.row} {kind} inside", *inside, *box(each), *shown(each))
+    return True
 
 
 def run(name, label=None):
@@ -87,7 +49,7 @@ def run(name, label=None):
     if label is not None:
         try:
             # the bytes of the command line, whatever the locale takes them for
-            label = jdr.chars(os.fsencode(label).decode("utf-8"))
+            label = os.fsencode(label).decode("utf-8")
         except ValueError:
             fail("the label is not UTF-8")
     try:
@@ -95,10 +57,13 @@ def run(name, label=None):
             file = source.read()
     except OSError:
         fail("the file cannot be read")
-    table = read_plan(file)
-    if table is None:
+    try:
+        plan = jdr.Plan.read(file)
+    except jdr.Refused as refusal:
+        print(f"read: {refusal.number} {refusal.offset} 0 0")
         return False
-    return comes_back(table, file) if label is None else list_label(table, label)
+    print(f"read: 0 {len(file)} {len(plan.objects)} {len(plan.bodies)}")
+    return comes_back(plan, file) if label is None else list_label(plan, label)
 
 
 def fail(message):

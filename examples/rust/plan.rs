@@ -1,115 +1,51 @@
 //! Reads a plan. Without a label its table is checked, written back and compared with the file; with one, the objects that have it for
 //! their description are listed, each with the groups around it, of a path its box, and of a text what is shown: plan FILE [LABEL].
 
-mod jdr;
-
-use jdr::Answer;
+use jdr::{Extent, Kind, Object, Table};
 use std::process::ExitCode;
-
-/// A table: the used words exactly.
-struct Table {
-    contents: Vec<u32>,
-    bodies: Vec<u32>,
-}
-
-fn print(call: &str, answer: Answer) {
-    println!("{call}: {} {} {} {}", answer.number, answer.offset, answer.rows, answer.words);
-}
-
-/// Reads without room first: the answer is the refusal, or has the counts that are needed.
-fn read_plan(file: &[u8]) -> Option<Table> {
-    let mut answer = jdr::read(file, &mut [], &mut []);
-    let mut table = Table { contents: Vec::new(), bodies: Vec::new() };
-    if answer.number == jdr::CONTENTS_TOO_SHORT {
-        table.contents = vec![0; answer.rows as usize * jdr::ROW_WORDS];
-        table.bodies = vec![0; answer.words as usize];
-        answer = jdr::read(file, &mut table.contents, &mut table.bodies);
-    }
-    print("read", answer);
-    (answer.number == jdr::ACCEPTED).then_some(table)
-}
 
 /// Whether the table's file is the one that it was read from.
 fn comes_back(table: &Table, file: &[u8]) -> bool {
-    print("check", jdr::check(&table.contents, &table.bodies));
-    let mut copy = vec![0; file.len()];
-    let answer = jdr::write(&table.contents, &table.bodies, &mut copy);
-    print("write", answer);
-    let same = answer.number == jdr::ACCEPTED && answer.offset as usize == file.len() && copy == file;
-    println!("{}", if same { "the same file" } else { "ANOTHER FILE" });
-    same
+    let counts = counts(table);
+    println!("check: 0 {} {counts}", table.view().file_len());
+    let copy = table.write();
+    println!("write: 0 {} {counts}", copy.len());
+    println!("{}", if copy == file { "the same file" } else { "ANOTHER FILE" });
+    copy == file
 }
 
-fn kind_name(kind: u32) -> &'static str {
+fn counts(table: &Table) -> String {
+    format!("{} {}", table.objects().len(), table.view().bodies().len())
+}
+
+fn kind_name(kind: Kind) -> &'static str {
     match kind {
-        jdr::GROUP => "group",
-        jdr::PATH => "path",
-        jdr::TEXT => "text",
-        jdr::BITMAP => "bitmap",
-        _ => "textpath",
+        Kind::Group => "group",
+        Kind::Path => "path",
+        Kind::Text => "text",
+        Kind::Bitmap => "bitmap",
+        Kind::TextPath => "textpath",
     }
 }
 
-/// The box around a path, or around the path of a text along one: left, bottom, right and top. A row with no path has none.
-fn box_of(table: &Table, row: u32) -> Option<String> {
-    let extent = jdr::extent(&table.contents, &table.bodies, row);
-    match extent.number {
-        jdr::ACCEPTED => {
-            let jdr::Extent { left, bottom, right, top, .. } = extent;
-            Some(format!("{left:.2} {bottom:.2} {right:.2} {top:.2}"))
-        }
-        jdr::NOT_A_NUMBER => Some("not a number".to_string()),
-        _ => None,
-    }
-}
-
-/// What is shown of a text, along a path or not: the LaTeX alternative if it has a char, otherwise the text itself. A row that is no text
-/// has none.
-fn shown(table: &Table, row: u32) -> Option<String> {
-    let text = jdr::text(&table.contents, &table.bodies, row);
-    let (start, length) = match text.alternative_length {
-        0 => (text.text_start, text.text_length),
-        length => (text.alternative_start, length),
-    };
-    let words = &table.bodies[start as usize..][..length as usize];
-    let chars: Vec<u16> = words.iter().map(|word| *word as u16).collect();
-    (text.number == jdr::ACCEPTED).then(|| String::from_utf16_lossy(&chars))
-}
-
-/// A row with its kind and the rows of the groups around it. The parent numbers lead from the innermost group to the outer one, row 0.
-fn print_row(table: &Table, entry: u32) {
-    let word = |row: u32, place: usize| table.contents[row as usize * jdr::ROW_WORDS + place];
-    print!("row {entry} {} inside", kind_name(word(entry, 0)));
-    if entry == 0 {
+/// An object with its kind, the rows of the groups around it, the box around a path, and what is shown of a text.
+fn print_object(object: Object) {
+    print!("row {} {} inside", object.row(), kind_name(object.kind()));
+    object.groups().for_each(|group| print!(" {}", group.row()));
+    if object.parent().is_none() {
         print!(" no group");
     }
-    let mut row = entry;
-    while row != 0 {
-        row = word(row, 1);
-        print!(" {row}");
+    match object.extent() {
+        Ok(Some(Extent { left, bottom, right, top })) => {
+            print!(" box {left:.2} {bottom:.2} {right:.2} {top:.2}")
+        }
+        Ok(None) => (),
+        Err(_) => print!(" box not a number"),
     }
-    if let Some(sides) = box_of(table, entry) {
-        print!(" box {sides}");
-    }
-    if let Some(shown) = shown(table, entry) {
-        print!(" shows {shown}");
+    if let Some(text) = object.text() {
+        print!(" shows {}", text.shown());
     }
     println!();
-}
-
-/// Lists without room first: the answer is already 0 where there are no entries, or has as offset how many are needed.
-fn list_label(table: &Table, label: &[u16]) -> bool {
-    let mut entries = Vec::new();
-    let mut answer = jdr::list(&table.contents, &table.bodies, label, &mut entries);
-    if answer.number == jdr::LIST_TOO_SHORT {
-        entries = vec![0; answer.offset as usize];
-        answer = jdr::list(&table.contents, &table.bodies, label, &mut entries);
-    }
-    print("list", answer);
-    for entry in &entries[..answer.rows as usize] {
-        print_row(table, *entry);
-    }
-    answer.number == jdr::ACCEPTED
 }
 
 /// Whether all went well; a message where the command line is at fault.
@@ -121,13 +57,21 @@ fn run() -> Result<bool, &'static str> {
         _ => return Err("usage: plan FILE [LABEL]"),
     };
     let file = std::fs::read(name).map_err(|_| "the file cannot be read")?;
-    let Some(table) = read_plan(&file) else {
-        return Ok(false);
+    let table = match Table::read(&file) {
+        Ok(table) => table,
+        Err(refused) => {
+            println!("read: {} {} 0 0", refused.number(), refused.offset);
+            return Ok(false);
+        }
     };
-    Ok(match label {
-        None => comes_back(&table, &file),
-        Some(label) => list_label(&table, &label.encode_utf16().collect::<Vec<u16>>()),
-    })
+    println!("read: 0 {} {}", file.len(), counts(&table));
+    let Some(label) = label else {
+        return Ok(comes_back(&table, &file));
+    };
+    let found = table.find(label);
+    println!("list: 0 0 {} 0", found.len());
+    found.for_each(print_object);
+    Ok(true)
 }
 
 fn main() -> ExitCode {
