@@ -48,6 +48,7 @@ enum {
     JDR_NO_TABLE = 16,           /* no acceptable file gives this table; offset and counts are 0 */
     JDR_OUTPUT_TOO_SHORT = 17,   /* the offset is the bytes needed; the counts are 0 */
     JDR_LIST_TOO_SHORT = 18,     /* the offset is the entries needed; the counts are 0 */
+    JDR_NO_SHEET = 19,           /* the bytes are no sheet of a table that an acceptable file gives; offset and counts are 0 */
     JDR_NOT_A_NUMBER = 20        /* of jdr_box: a coordinate is a NaN */
 };
 
@@ -143,6 +144,15 @@ struct jdr_answer jdr_write(const uint32_t *contents, size_t contents_len, const
 struct jdr_answer jdr_list(const uint32_t *contents, size_t contents_len, const uint32_t *bodies, size_t bodies_len, const uint16_t *label,
                            size_t label_len, uint32_t *entries, size_t entries_len);
 
+/* Writes the sheet of a table, whose used words are lent exactly: row count and word count, the contents, the bodies. The counts and the contents
+ * are 16-bit, the bodies 32-bit, all big-endian. 0 with the bytes written as offset and the counts; 16; or 17. */
+struct jdr_answer jdr_sheet_write(const uint32_t *contents, size_t contents_len, const uint32_t *bodies, size_t bodies_len, uint8_t *sheet,
+                                  size_t sheet_len);
+
+/* Reads a sheet into a table. 0 with the sheet's length as offset and the counts; 19; 14 or 15, as jdr_read. */
+struct jdr_answer jdr_sheet_read(const uint8_t *sheet, size_t sheet_len, uint32_t *contents, size_t contents_len, uint32_t *bodies,
+                                 size_t bodies_len);
+
 /* The numbers of the three questions about a row are others: */
 enum {
     JDR_NO_ROW = 6,              /* the table has no such row */
@@ -184,6 +194,7 @@ static inline const char *jdr_message(uint32_t number)
     case JDR_NO_TABLE: return "the words are no table of a drawing";
     case JDR_OUTPUT_TOO_SHORT: return "the output lent is too short";
     case JDR_LIST_TOO_SHORT: return "the list lent is too short";
+    case JDR_NO_SHEET: return "the bytes are no sheet of a table";
     case JDR_NOT_A_NUMBER: return "a coordinate is not a number";
     default: return "a number that no call gives";
     }
