@@ -21,5 +21,6 @@ pub mod plans;
 pub mod random;
 pub mod read;
 pub mod table;
+pub mod uptime;
 pub mod version;
 pub mod write;

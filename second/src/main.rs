@@ -7,7 +7,7 @@ mod compare;
 #[cfg(feature = "linked")]
 mod library;
 
-use second::{examples, lister, make, read, table};
+use second::{examples, lister, make, read, table, uptime};
 use std::fs;
 use std::path::Path;
 use std::process::ExitCode;
@@ -15,6 +15,7 @@ use std::process::ExitCode;
 const USAGE: &str = "\
 second read FILE                         the answer, and the lister's lines of an accepted file
 second plan FILE [LABEL]                 what the programs in examples/ print
+second uptime FILE LIST HOURS            what the uptime program prints
 second make-examples DIR                 their plans
 second make-cases DIR [SEED]             cases of all calls
 second compare [--seconds N] [--seed S] [--out DIR] [--trace FILE]
@@ -30,6 +31,7 @@ fn main() -> ExitCode {
         ["read", file] => read_file(file),
         ["plan", file] => plan(file, None),
         ["plan", file, label] => plan(file, Some(label)),
+        ["uptime", file, list, hours] => uptime_of(file, list, hours),
         ["make-examples", folder] => make_examples(Path::new(folder)),
         ["make-cases", folder] => make_cases(folder, 1),
         ["make-cases", folder, seed] => number(seed).and_then(|seed| make_cases(folder, seed)),
@@ -68,6 +70,14 @@ fn plan(name: &str, label: Option<&str>) -> Result<ExitCode, String> {
     let (lines, well) = examples::lines(&file, label);
     print!("{lines}");
     Ok(ExitCode::from(u8::from(!well)))
+}
+
+fn uptime_of(file: &str, list: &str, hours: &str) -> Result<ExitCode, String> {
+    let file = fs::read(file).map_err(|_| "the file cannot be read")?;
+    let list = fs::read_to_string(list).map_err(|_| "the list cannot be read")?;
+    let (lines, status) = uptime::lines(&file, &list, hours.parse().map_err(|_| "no hours")?);
+    print!("{lines}");
+    Ok(ExitCode::from(status))
 }
 
 fn make_examples(folder: &Path) -> Result<ExitCode, String> {
