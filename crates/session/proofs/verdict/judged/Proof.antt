@@ -1,0 +1,50 @@
+use Rattle.pieces.specs.SessionLaws.{verdicts-refused, verdicts-given}
+use mathlib.Core.Path.{_≡_, sym, _∙_}
+use borrow.Author.Needs.{needs}
+use Rattle.session.proofs.verdict.judged.Statement.{statement}
+use Rattle.session.proofs.verdict.judged.Tie as tie
+use Rattle.session.proofs.verdict.judged.Reads as reads
+use Rattle.session.proofs.verdict.judged.Lts as lts
+use Rattle.session.proofs.verdict.answer_in.Reads as answer-in-reads
+use Rattle.session.proofs.verdict.answered.Reads as answered-reads
+use Rattle.session.proofs.verdict.is_unfit.Reads as is-unfit-reads
+use Rattle.session.proofs.verdict.spent.Reads as spent-reads
+
+-- src/verdict.rt:130:8
+is-unfit-requires : tie.Need-is-unfit-requires
+is-unfit-requires c κs = search needs
+
+-- src/verdict.rt:133:21
+answered-requires : tie.Need-answered-requires
+answered-requires c κs = search needs
+
+-- src/verdict.rt:131:9
+returns : tie.Need-returns
+returns c = verdicts-refused (sym (c .before .before .is-unfit .ensures) ∙ c .before .if1 .taken) (c .answered .ensures)
+
+-- src/verdict.rt:137:18
+spent-requires : tie.Need-spent-requires
+spent-requires c κs = search needs
+
+-- src/verdict.rt:138:17
+answer-in-requires : tie.Need-answer-in-requires
+answer-in-requires c κs = search needs
+
+-- src/verdict.rt:127:1
+returns-2 : tie.Need-returns-2
+returns-2 c =
+    let at-spent = c .before in
+    let at-if1 = at-spent .before in
+    let at-is-unfit = at-if1 .before in
+    verdicts-given (sym (at-is-unfit .is-unfit .ensures) ∙ at-if1 .if1 .left) (c .answer-in .ensures) (at-spent .spent .ensures)
+
+pub judged-spec : {M : Type 1} → statement M
+judged-spec =
+    tie.close
+    (tie.spec
+    is-unfit-requires
+    answered-requires
+    returns
+    spent-requires
+    answer-in-requires
+    returns-2)
