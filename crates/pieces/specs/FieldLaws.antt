@@ -22,7 +22,8 @@ use Rattle.format.specs.Format.{script, scriptMany}
 use Rattle.format.specs.Layout.{Layout, field, repeat, threaded, when, _▸_}
 use Rattle.format.specs.Pass.{_⟫_, done}
 use Rattle.format.specs.ParsingLaws.{andThen-same, followed}
-use Rattle.drawing.specs.Codecs.{byteFields, wordFields}
+use Rattle.drawing.specs.Codecs.{meant, byteFields, wordFields}
+use Rattle.drawing.specs.FlagLaws.{meant-same}
 use Rattle.drawing.specs.Reading.{bytes}
 use Rattle.drawing.specs.Fields as F
 use Rattle.drawing.specs.String.{chars}
@@ -63,7 +64,7 @@ read-any w k any us below there =
     let small : v < 256 ^ size (k .shape) = field-below 256 us 0 (size (k .shape)) inside below in
     let fits : v < values (k .shape) = subst (λ b. v < b) (ap (λ n. 256 ^ n) (any .sized) ∙ sym (any .all)) small in
     let behind : 0 + size (k .shape) ≡ w = omega (arith, any .sized) in
-    (v, read-value 256 size 2 5 us 0 k v inside refl (record { fits = fits; faultless = any .faultless v }) ∙ ap (λ n. found v (drop n us)) behind)
+    (v, read-value 256 size meant 2 5 us 0 k v inside (sym (meant-same (k .shape) v fits)) (record { fits = fits; faultless = any .faultless v }) ∙ ap (λ n. found v (drop n us)) behind)
 
 module _ {R : Type 0} (w : ℕ) (k : Kind) (any : Any w k) (K : Script R) where
   abbrev many : ℕ → Script R

@@ -44,8 +44,9 @@ pub record Going (bs : List ℕ) (s : Session) : Type 0 where
   pub on : s .stage < stopped
   -- a group whose count comes next may be open
   pub may-open : s .stage ≡ 5 → s .depth < depthLimit
-  pub few-held : (s .held < room) × (s .held ≤ length bs)
-  pub few-words : (s .words ≤ length bs) × (s .rows ≤ length bs)
+  pub few-held : s .held < room
+  pub few-words : s .words + s .held ≤ length bs
+  pub few-rows : s .rows + s .held ≤ length bs
   pub number-now : s .number < 14
   pub same : (more : List ℕ) → tallied (headOn file) (bs ++ more) ≡ plus (s .words) (tallied (rest (standing s)) (heldBytes s ++ more))
 

@@ -83,14 +83,14 @@ stands-fit {bs} {s} h =
 pub verdict-reads : (bs : List ℕ) → Below 256 bs → {r : Answer} → r ≡ verdictOf bs → Verdict bs r
 verdict-reads bs below {r} is =
     record {
-      accepts = λ d f. is ∙ ap (λ q. verdictFrom q (length bs)) (drawing-of-bytes bs below d .1 (f .acceptable, f .bytes-are));
+      accepts = λ d f. is ∙ ap (λ q. verdictFrom q (length bs)) (drawing-of-bytes bs below d .1 f);
       refuses = λ n o f. is ∙ ap (λ q. verdictFrom q (length bs)) (refusal-of-bytes bs below n o .1 f);
       one-or-other = either (drawingOf bs) refl;
       reads = λ contents bodies rows words. roomy (drawingOf bs) refl contents bodies rows words;
     }
   where
     either : (q : Reading) → drawingOf bs ≡ q → ((d : Drawing) × IsFile bs d) ⊎ ((n : ℕ) × (o : ℕ) × Refused bs n o)
-    either (drawing d) e = let f = drawing-of-bytes bs below d .0 e in inl (d, record { acceptable = f .0; bytes-are = f .1 })
+    either (drawing d) e = inl (d, drawing-of-bytes bs below d .0 e)
     either (refusal n o) e = inr (n, o, refusal-of-bytes bs below n o .0 e)
 
     roomy : (q : Reading) → drawingOf bs ≡ q → (contents bodies : List ℕ) → r .rows ≤ length contents / rowWidth → r .words ≤ length bodies → r ≡ readResult bs contents bodies .answer
@@ -122,8 +122,9 @@ opened-stands s depth bytes-are number offset rows words stage held =
                 inl (record {
                   on = omega arith;
                   may-open = λ e. absurd (omega arith);
-                  few-held = (omega arith, omega arith);
-                  few-words = (omega arith, omega arith);
+                  few-held = omega arith;
+                  few-words = omega arith;
+                  few-rows = omega arith;
                   number-now = omega arith;
                   same = λ more.
                       sym (plus-zero (tallied (headOn file) more))

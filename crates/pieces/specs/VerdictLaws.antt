@@ -19,14 +19,16 @@ use Rattle.format.specs.ScriptRun.{run}
 use Rattle.format.specs.ParsingLaws.{followed, followed-script}
 use Rattle.format.specs.Pass.{Passed, through, stopped, pass, _⟫_, done}
 use Rattle.format.specs.PassLaws.{puts, pass-found}
-use Rattle.format.specs.FixedLayoutLaws.{parsed-good}
+use Rattle.format.specs.FixedLayoutLaws.{parsed-spelt}
 use Rattle.drawing.specs.Codecs.{byteFields, wordFields}
 use Rattle.drawing.specs.Limits.{lengthLimit}
 use Rattle.drawing.specs.Reading.{bytes, Reading, reading, refusal, drawingOf}
 use Rattle.drawing.specs.Drawing.{Drawing, file}
 use Rattle.drawing.specs.Table.{wordsOf}
 use Rattle.drawing.specs.Answers.{answer, rowsOf, wordCount}
-use Rattle.laws.specs.CodecLaws.{bytes-sensible, bytes-literal}
+use Rattle.laws.specs.CodecLaws.{bytes-sensible}
+use Rattle.laws.specs.DrawingLaws.{refusal-positive}
+use Rattle.laws.specs.NumberLaws.{number-small}
 use Rattle.pieces.specs.Tally.{plus, tallied}
 use Rattle.pieces.specs.TallyLaws.{tallied-followed}
 use Rattle.pieces.specs.PassingLaws.{toWords, Says, pass-says}
@@ -112,9 +114,31 @@ verdict-tallied bs below short =
   where
     by : (o : Outcome Drawing) → parse bytes file bs ≡ o → verdictFrom (reading (length bs) o) (length bs) ≡ comes (length bs) (andThen o (λ d rest. found (rowsOf d, length (wordsOf file d)) rest))
     by (found d []) e =
-        let good = parsed-good byteFields bytes-sensible bytes-literal file bs below d [] e .0 in
+        let good = parsed-spelt byteFields bytes-sensible file bs below d [] e .good in
         let words = file-words d good in
         let same : wordCount d ≡ length (wordsOf file d) - rowsOf d - 4 = omega arith in
         ap (λ w. answer 0 (length bs) (rowsOf d) w) same
     by (found d (b ∷ rest)) e = refl
     by (C.refused n place) e = refl
+
+-- Something made of what is found is refused where that is.
+made-refused : {A B : Type 0} (make : A → B) (o : Outcome A) {n : ℕ} {place : List ℕ} → andThen o (λ a rest. found (make a) rest) ≡ C.refused n place → o ≡ C.refused n place
+made-refused make (found a rest) e = let z : _≡_ {A = ℕ} 0 1 = cc in absurd (omega arith)
+made-refused make (C.refused m back) {n} {place} e =
+    let same : m ≡ n = cc in
+    let there : back ≡ place = cc in
+    ap (λ m. C.refused m back) same ∙ ap (λ l. C.refused n l) there
+
+-- Where the file's script is refused, that is the verdict, and its number is one of those of the reader.
+pub refused-verdict : (bs : List ℕ) → Below 256 bs → length bs ≤ lengthLimit → (n : ℕ) (place : List ℕ) → tallied (headOn file) bs ≡ C.refused n place
+    → (verdictOf bs ≡ answer n (length bs - length place) 0 0) × (0 < n) × (n < 14)
+refused-verdict bs below short n place is = (
+  verdict-tallied bs below short ∙ ap (comes (length bs)) is,
+  refusal-positive bs below n (length bs - length place) reads,
+  (let small = number-small bs below n (length bs - length place) reads in omega arith),
+)
+  where
+    reads : drawingOf bs ≡ refusal n (length bs - length place)
+    reads =
+        ap (λ t. cond t (refusal 1 lengthLimit) (reading (length bs) (parse bytes file bs))) (le-ltb lengthLimit (length bs) short)
+        ∙ ap (reading (length bs)) (made-refused {A = Drawing} {B = ℕ × ℕ} (λ (d : Drawing). (rowsOf d, length (wordsOf file d))) (parse bytes file bs) {n = n} {place = place} (sym (made file bs below rowsOf) ∙ is))

@@ -7,3 +7,5 @@ pub mod Objects
 pub mod Running
 pub mod Advancing
 pub mod Feeding
+pub mod Turning
+pub mod Giving

@@ -1,0 +1,150 @@
+// A session, run over the bytes that it holds and those of a piece.
+use crate::advance::advance;
+use crate::hold::appended;
+use crate::hold::kept;
+use crate::place::STOPPED;
+use drawing::numbers::ACCEPTED;
+use drawing::numbers::CUT;
+use pieces::Session;
+ghost use mathlib.Core.Path.{_≡_};
+ghost use mathlib.Core.Bool.{true, false};
+ghost use mathlib.Core.List.{_++_};
+ghost use Prim.Native.Nat.{_+_, _-_, _<_, _≤_, min};
+ghost use lib.ListN.{length, drop};
+ghost use Rattle.pieces.specs.Session.{heldBytes};
+ghost use Rattle.session.specs.Feeding.{withHeld, stop, Able, Feeds, MayGoOn};
+ghost use Rattle.session.specs.Turning.{Turns};
+
+// So many bytes a session has room for: more than any part takes.
+const ROOM: usize = 184;
+
+pub fn with_held(s: Session, buffer: [u8; 184], held: usize) -> Session
+    requires { ⌜ held ≤ 184 ⌝ }
+    ensures { λ r. ⌜ r ≡ withHeld s buffer held ⌝ }
+{
+    let mut t = s;
+    t.buffer = buffer;
+    t.held = held as u32;
+    t
+}
+
+fn stopped(s: Session) -> Session
+    ensures { λ r. ⌜ r ≡ stop s ⌝ }
+{
+    let mut t = s;
+    t.stage = STOPPED;
+    t
+}
+
+// No fault was found: the file may go on here.
+fn goes_on(s: Session) -> bool
+    ensures { λ r. ⌜ (r ≡ true → MayGoOn s) × (r ≡ false → MayGoOn s → ⊥) ⌝ }
+{
+    if s.number == ACCEPTED {
+        return true;
+    }
+    s.number == CUT
+}
+
+fn least(a: usize, b: usize) -> usize
+    ensures { λ r. ⌜ r ≡ min a b ⌝ }
+{
+    if a < b {
+        return a;
+    }
+    b
+}
+
+// A session that holds nothing, run over some bytes: what is left of them is held, unless there is a fault in them.
+fn fed_alone(s: Session, src: &[u8]) -> Session
+    requires { ⌜ Able s (length (now src)) ⌝ }
+    ensures { λ r. ⌜ Feeds s (now (src .entry)) r ⌝ }
+{
+    let next = advance(s, src, s.bytes as usize - src.len());
+    let at = next.at;
+    let left = src.len() - at;
+    let after = next.session;
+    if goes_on(after) {
+        if left < ROOM {
+            let none = [0u8; 184];
+            return with_held(after, appended(none, 0, src, at, left), left);
+        }
+    }
+    stopped(after)
+}
+
+// A session behind some bytes of a piece, or, at its end, what comes of it.
+pub struct Turn {
+    pub session: Session,
+    pub from: usize,
+    pub over: bool,
+}
+
+// What is held and so much of a piece as there is room for, run over together.
+fn turned(s: Session, bytes: &[u8]) -> Turn
+    requires { ⌜ Able s (s .held + length (now bytes)) × (0 < s .held) × (s .held < 184) ⌝ }
+    ensures { λ r. ⌜ Turns s (now (bytes .entry)) r ⌝ }
+{
+    let held = s.held as usize;
+    let more = least(bytes.len(), ROOM - held);
+    let all = held + more;
+    let old = s.buffer;
+    let joined = appended(kept(old, held), held, bytes, 0, more);
+    let src = &joined[..all];
+    let next = advance(s, src, s.bytes as usize - bytes.len() - held);
+    let came = next.at;
+    let after = next.session;
+    if !goes_on(after) {
+        return Turn {
+            session: stopped(after),
+            from: 0,
+            over: true,
+        };
+    }
+    if came == 0 {
+        if all < ROOM {
+            return Turn {
+                session: with_held(after, joined, all),
+                from: 0,
+                over: true,
+            };
+        }
+        return Turn {
+            session: stopped(after),
+            from: 0,
+            over: true,
+        };
+    }
+    if held <= came {
+        let rest = after.buffer;
+        return Turn {
+            session: with_held(after, rest, 0),
+            from: came - held,
+            over: false,
+        };
+    }
+    let none = [0u8; 184];
+    Turn {
+        session: with_held(after, appended(none, 0, src, came, all - came), all - came),
+        from: more,
+        over: false,
+    }
+}
+
+// The bytes held, and those of a piece.
+pub fn fed(s: Session, bytes: &[u8]) -> Session
+    requires { ⌜ Able s (s .held + length (now bytes)) × (s .held < 184) ⌝ }
+    ensures { λ r. ⌜ Feeds s (heldBytes s ++ now (bytes .entry)) r ⌝ }
+{
+    let mut t = s;
+    let mut from: usize = 0;
+    while 0 < t.held {
+        let turn = turned(t, &bytes[from..]);
+        if turn.over {
+            return turn.session;
+        }
+        from = from + turn.from;
+        t = turn.session;
+    }
+    fed_alone(t, &bytes[from..])
+}
