@@ -250,8 +250,8 @@ module _ {s : Session} {src : List ℕ} {base : ℕ} {r : Fed} (advances : Advan
   abbrev Told : List ℕ → Type 0
   Told bs = (verdictOf bs ≡ answer (after .number) (after .offset) 0 0) × (0 < after .number) × (after .number < 14)
 
-  told : {bs : List ℕ} {n offset : ℕ} → advances .ran .number ≡ n → base + advances .ran .stop ≡ offset → (verdictOf bs ≡ answer n offset 0 0) × (0 < n) × (n < 14) → Told bs
-  told {bs} {n} {offset} is place so =
+  told : (bs : List ℕ) {n offset : ℕ} → advances .ran .number ≡ n → base + advances .ran .stop ≡ offset → (verdictOf bs ≡ answer n offset 0 0) × (0 < n) × (n < 14) → Told bs
+  told bs {n} {offset} is place so =
       let small = so .2 in
       let same : after .number ≡ n = number-is (omega arith) ∙ is in
       let some-number = so .1 in
@@ -271,7 +271,7 @@ module _ {s : Session} {src : List ℕ} {base : ℕ} {r : Fed} (advances : Advan
       ends : (t : Bool) → ltb (advances .ran .at) (length src) ≡ t → Over (advances .ran .place) → advances .ran .stop ≡ advances .ran .at → advances .ran .number ≡ cond t 13 0
           → (MayGoOn after → ⊥) ⊎ (room ≤ length (drop (advances .ran .at) src)) → Told (bs ++ more)
       ends true e over there is why =
-          told is (ap (λ n. base + n) there) (trailing-at more behind below short over (ltb-true (advances .ran .at) (length src) e), omega arith, omega arith)
+          told (bs ++ more) is (ap (λ n. base + n) there) (trailing-at more behind below short over (ltb-true (advances .ran .at) (length src) e), omega arith, omega arith)
       ends false e over there is (inl fault) = absurd (fault (inl (ap (λ n. cond (ltb n 14) n 2) is)))
       ends false e over there is (inr many) =
           let far = ltb-false (advances .ran .at) (length src) e in
@@ -286,7 +286,7 @@ module _ {s : Session} {src : List ℕ} {base : ℕ} {r : Fed} (advances : Advan
         where
           halted : ((more : List ℕ) → tallied leftNow (drop (advances .ran .at) src ++ more) ≡ C.refused (advances .ran .number) (drop (advances .ran .stop) src ++ more))
               ⊎ ((advances .ran .number ≡ 2) × (length (drop (advances .ran .at) src) < room)) → Told (bs ++ more)
-          halted (inl stays) = told refl refl (refused-at more behind below short (stays (later ++ more)))
+          halted (inl stays) = told (bs ++ more) refl refl (refused-at more behind below short (stays (later ++ more)))
           halted (inr h) = absurd (halts (advances .ran .number) (h .0) (h .1) refl why)
 
   -- ---- the verdict, where nothing else is to come
@@ -295,8 +295,8 @@ module _ {s : Session} {src : List ℕ} {base : ℕ} {r : Fed} (advances : Advan
   Now bs = (verdictNow after ≡ verdictOf bs) × (after .number < 14)
 
   -- A fault, or a part that is cut.
-  now-told : {bs : List ℕ} → Told bs → Now bs
-  now-told {bs} so =
+  now-told : (bs : List ℕ) → Told bs → Now bs
+  now-told bs so =
       let some-number = so .1 in
       (ap (λ t. cond t (answer 0 (after .bytes) (after .rows) (after .words - after .rows - 4)) (answer (after .number) (after .offset) 0 0)) (ne-eqb (after .number) 0 (λ z. omega arith)) ∙ sym (so .0), so .2)
 
@@ -313,14 +313,14 @@ module _ {s : Session} {src : List ℕ} {base : ℕ} {r : Fed} (advances : Advan
           subst (λ l. length l ≤ lengthLimit) (sym (append-nil bs)) (omega arith)
 
       whole : Told (bs ++ []) → Now bs
-      whole so = now-told (subst Told (append-nil bs) so)
+      whole so = now-told bs (subst Told (append-nil bs) so)
 
       nothing : (l : List ℕ) → l ≡ l ++ (later ++ [])
       nothing l = sym (append-nil l) ∙ ap (λ k. l ++ k) (sym (ap (λ k. k ++ []) none-later))
 
       ends : (t : Bool) → ltb (advances .ran .at) (length src) ≡ t → Over (advances .ran .place) → advances .ran .stop ≡ advances .ran .at → advances .ran .number ≡ cond t 13 0 → Now bs
       ends true e over there is =
-          whole (told is (ap (λ n. base + n) there) (trailing-at [] behind below short over (ltb-true (advances .ran .at) (length src) e), omega arith, omega arith))
+          whole (told (bs ++ []) is (ap (λ n. base + n) there) (trailing-at [] behind below short over (ltb-true (advances .ran .at) (length src) e), omega arith, omega arith))
       ends false e over there is =
           let number-zero : after .number ≡ 0 = ap (λ n. cond (ltb n 14) n 2) is in
           let far = ltb-false (advances .ran .at) (length src) e in
@@ -350,7 +350,7 @@ module _ {s : Session} {src : List ℕ} {base : ℕ} {r : Fed} (advances : Advan
           → Now bs
       by (inr h) = ends (ltb (advances .ran .at) (length src)) refl (h .0) (h .1) (h .2)
       by (inl stops) =
-          whole (told refl refl (refused-at [] behind below short
+          whole (told (bs ++ []) refl refl (refused-at [] behind below short
           (ap (tallied leftNow) (sym (nothing (drop (advances .ran .at) src))) ∙ stops .now ∙ ap (C.refused (advances .ran .number)) (nothing (drop (advances .ran .stop) src)))))
 
   -- ---- what comes of it
@@ -363,7 +363,7 @@ module _ {s : Session} {src : List ℕ} {base : ℕ} {r : Fed} (advances : Advan
       let so : Told bs = subst Told (append-nil bs) (for-good behind why [] (subst (Below 256) (sym (append-nil bs)) (behind .units)) (subst (λ l. length l ≤ lengthLimit) (sym (append-nil bs)) (omega arith))) in
       record {
         counted = behind .counted;
-        now = now-told so .0;
+        now = now-told bs so .0;
         one-of = inr (record { off = refl; some = (so .1, so .2); same = λ more below short. for-good behind why more (below-append 256 bs more (behind .units) below) short .0 });
       }
 

@@ -12,11 +12,12 @@ use Rattle.format.specs.Digits.{Below}
 use Rattle.format.specs.FixedCodecLaws.{below-append}
 use Rattle.drawing.specs.declared.Answer.{Answer}
 use Rattle.drawing.specs.Limits.{lengthLimit, depthLimit}
+use Rattle.drawing.specs.Drawing.{file}
 use Rattle.drawing.specs.Answers.{answer}
 use Rattle.pieces.specs.declared.Session.{Session}
 use Rattle.pieces.specs.Tally.{plus, tallied}
 use Rattle.pieces.specs.Going.{room}
-use Rattle.pieces.specs.Parts.{rest}
+use Rattle.pieces.specs.Parts.{headOn, rest}
 use Rattle.pieces.specs.Verdict.{verdictOf}
 use Rattle.pieces.specs.Session.{standing, heldBytes, verdictNow, Going, Faulty, Within, Stands}
 use Rattle.pieces.specs.SessionLaws.{stands-fit}
@@ -71,8 +72,8 @@ module _ (s : Session) (piece : List ℕ) where
         }
 
     -- A session that is not run has found a fault.
-    pub gives-counted : (Runnable s → ⊥) → Gives s piece (withBytes s (s .bytes + length piece))
-    gives-counted not-run =
+    pub gives-counted : s .bytes + length piece ≤ lengthLimit → (Runnable s → ⊥) → Gives s piece (withBytes s (s .bytes + length piece))
+    gives-counted all-fit not-run =
         record {
           same-spent = refl;
           stands = λ below bs h.
@@ -84,7 +85,7 @@ module _ (s : Session) (piece : List ℕ) where
                 units = below-append 256 bs piece (h .units) below;
                 shallow = h .shallow;
                 within = λ fits. faulty bs below h w fits (w .one-of);
-                beyond = λ long. omega arith;
+                beyond = λ long. absurd (omega arith);
               };
         }
       where
@@ -153,7 +154,7 @@ module _ (s : Session) (piece : List ℕ) where
                 units = below-append 256 bs piece (h .units) below;
                 counted = omega arith;
                 same = λ more.
-                    ap (tallied _) (append-assoc bs piece more)
+                    ap (tallied (headOn file)) (append-assoc bs piece more)
                     ∙ g .same (piece ++ more)
                     ∙ ap (λ l. plus (s .words) (tallied (rest (standing s)) l)) (sym (append-assoc (heldBytes s) piece more));
               })
