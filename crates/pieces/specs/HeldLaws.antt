@@ -1,7 +1,7 @@
 -- The first elements of an array, by their places; and an array that is filled from its beginning.
 use mathlib.Core.Path.{_≡_, refl, sym, ap, _∙_}
 use mathlib.Core.Bool.{Bool, true, false, true≢false}
-use Prim.Native.Nat.{ℕ, zero, suc, _+_, _-_, _<_, _≤_}
+use Prim.Native.Nat.{ℕ, zero, suc, _+_, _-_, _<_, _≤_, min}
 use native.Mathlib.Nat as Nat
 use native.Mathlib.Omega.{arith}
 use native.Mathlib.Numerals.{add-one}
@@ -56,3 +56,12 @@ both-behind xs src at from count i long less =
     ∙ getD-append-add xs (take count (drop from src)) i 0
     ∙ getD-take count (drop from src) i 0 less
     ∙ getD-drop from src i 0
+
+pub both-long : (at : ℕ) (old src : List ℕ) (from count : ℕ) → from + count ≤ length src → length (firstOf at old ++ take count (drop from src)) ≡ at + count
+both-long at old src from count there =
+    length-append (firstOf at old) (take count (drop from src))
+    ∙ ap (λ n. n + length (take count (drop from src))) (length-first at old)
+    ∙ ap (λ n. at + n) (length-take count (drop from src) ∙ few)
+  where
+    few : min count (length (drop from src)) ≡ count
+    few = let rest-long = length-drop from src in omega arith

@@ -1,7 +1,7 @@
 -- A session in the middle of a piece: the bytes it stands for, those of them that are still ahead of it, and what comes of running on.
 use mathlib.Core.Path.{_≡_, refl, sym, ap, _∙_, subst}
 use mathlib.Core.Logic.{_⊎_, inl, inr}
-use mathlib.Core.Bool.{Bool, true, false, cond, false≢true, true≢false}
+use mathlib.Core.Bool.{Bool, true, false, cond, not, false≢true, true≢false}
 use Prim.Native.Nat.{ℕ, zero, suc, _+_, _-_, _<_, _≤_}
 use native.Mathlib.Nat as Nat
 use native.Mathlib.Omega.{arith}
@@ -133,6 +133,33 @@ pub record Feeds (s : Session) (ahead : List ℕ) (r : Session) : Type 0 where
 -- The file may go on here.
 abbrev pub MayGoOn : Session → Type 0
 MayGoOn s = (s .number ≡ 0) ⊎ (s .number ≡ 2)
+
+-- What a test says of this.
+pub record Tells (r : Bool) (P : Type 0) : Type 0 where
+  pub yes : r ≡ true → P
+  pub no : r ≡ false → P → ⊥
+
+pub tells-yes : {P : Type 0} → P → Tells true P
+tells-yes p = record { yes = λ e. p; no = λ e. absurd (true≢false e) }
+
+pub tells-no : {P : Type 0} → (P → ⊥) → Tells false P
+tells-no not-so = record { yes = λ e. absurd (false≢true e); no = λ e. not-so }
+
+-- The same of its opposite.
+pub untold : (r : Bool) {P : Type 0} → Tells r P → not r ≡ true → P → ⊥
+untold true t e = absurd (false≢true e)
+untold false t e = t .no refl
+
+pub told-so : (r : Bool) {P : Type 0} → Tells r P → not r ≡ false → P
+told-so true t e = t .yes refl
+told-so false t e = absurd (true≢false e)
+
+pub tells-going : (s : Session) → (s .number ≡ 0 → ⊥) → Tells (eqb (s .number) 2) (MayGoOn s)
+tells-going s some-number = record { yes = λ e. inr (eqb-true (s .number) 2 e); no = λ e. other e }
+  where
+    other : eqb (s .number) 2 ≡ false → MayGoOn s → ⊥
+    other e (inl none-yet) = some-number none-yet
+    other e (inr cut-here) = true≢false (sym (eq-eqb (s .number) 2 cut-here) ∙ e)
 
 pub able-tame : {s : Session} {ahead : ℕ} → Able s ahead → Tame s
 able-tame able =

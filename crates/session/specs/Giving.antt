@@ -5,9 +5,9 @@ use mathlib.Core.Bool.{Bool, true, false, cond, false≢true}
 use Prim.Native.Nat.{ℕ, suc, _+_, _-_, _<_, _≤_}
 use native.Mathlib.Omega.{arith}
 use mathlib.Core.List.{List, [], _∷_, _++_, append-assoc}
-use lib.Dec.{eqb, ltb}
+use lib.Dec.{eqb, leb, ltb}
 use lib.ListN.{length, length-append}
-use borrow.Author.Tests.{ltb-true, ltb-false, ne-eqb}
+use borrow.Author.Tests.{ltb-true, ltb-false, leb-true, leb-false, ne-eqb}
 use Rattle.format.specs.Digits.{Below}
 use Rattle.format.specs.FixedCodecLaws.{below-append}
 use Rattle.drawing.specs.declared.Answer.{Answer}
@@ -22,7 +22,7 @@ use Rattle.pieces.specs.Verdict.{verdictOf}
 use Rattle.pieces.specs.Session.{standing, heldBytes, verdictNow, Going, Faulty, Within, Stands}
 use Rattle.pieces.specs.SessionLaws.{stands-fit}
 use Rattle.pieces.specs.SessionPromises.{unfit, Pieces}
-use Rattle.session.specs.Feeding.{withBytes, Able, Behind, Feeds}
+use Rattle.session.specs.Feeding.{withBytes, Able, Behind, Feeds, Tells}
 
 -- No fault was found, and no number is too large for the bytes given.
 pub record Runnable (s : Session) : Type 0 where
@@ -31,6 +31,20 @@ pub record Runnable (s : Session) : Type 0 where
   pub few-held : s .held < room
   pub few-words : s .words + s .held ≤ s .bytes
   pub few-rows : s .rows + s .held ≤ s .bytes
+
+pub tells-shallow : (s : Session) → s .stage ≡ 5 → Tells (ltb (s .depth) depthLimit) (s .stage ≡ 5 → s .depth < depthLimit)
+tells-shallow s counting =
+    record {
+      yes = λ e z. ltb-true (s .depth) depthLimit e;
+      no = λ e may. let deep = ltb-false (s .depth) depthLimit e in let less = may counting in omega arith;
+    }
+
+pub tells-runnable : (s : Session) → s .stage ≤ 6 → (s .stage ≡ 5 → s .depth < depthLimit) → s .held < 184 → s .held ≤ s .bytes → s .words ≤ s .bytes - s .held → Tells (leb (s .rows) (s .bytes - s .held)) (Runnable s)
+tells-runnable s staged may few there words =
+    record {
+      yes = λ e. let rows = leb-true (s .rows) (s .bytes - s .held) e in record { staged = staged; may-open = may; few-held = few; few-words = omega arith; few-rows = omega arith };
+      no = λ e h. let more = leb-false (s .rows) (s .bytes - s .held) e in let rows = h .few-rows in omega arith;
+    }
 
 pub record Gives (s : Session) (piece : List ℕ) (r : Session) : Type 0 where
   pub same-spent : r .spent ≡ s .spent

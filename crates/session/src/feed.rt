@@ -7,12 +7,11 @@ use drawing::numbers::ACCEPTED;
 use drawing::numbers::CUT;
 use pieces::Session;
 ghost use mathlib.Core.Path.{_≡_};
-ghost use mathlib.Core.Bool.{true, false};
 ghost use mathlib.Core.List.{_++_};
-ghost use Prim.Native.Nat.{_+_, _-_, _<_, _≤_, min};
-ghost use lib.ListN.{length, drop};
+ghost use Prim.Native.Nat.{_+_, _<_, _≤_, min};
+ghost use lib.ListN.{length};
 ghost use Rattle.pieces.specs.Session.{heldBytes};
-ghost use Rattle.session.specs.Feeding.{withHeld, stop, Able, Feeds, MayGoOn};
+ghost use Rattle.session.specs.Feeding.{withHeld, stop, Able, Feeds, MayGoOn, Tells};
 ghost use Rattle.session.specs.Turning.{Turns};
 
 // So many bytes a session has room for: more than any part takes.
@@ -38,7 +37,7 @@ fn stopped(s: Session) -> Session
 
 // No fault was found: the file may go on here.
 fn goes_on(s: Session) -> bool
-    ensures { λ r. ⌜ (r ≡ true → MayGoOn s) × (r ≡ false → MayGoOn s → ⊥) ⌝ }
+    ensures { λ r. ⌜ Tells r (MayGoOn s) ⌝ }
 {
     if s.number == ACCEPTED {
         return true;

@@ -11,25 +11,31 @@ use drawing::limits::LENGTH_LIMIT;
 use drawing::numbers::ACCEPTED;
 use pieces::Session;
 ghost use mathlib.Core.Path.{_≡_};
-ghost use mathlib.Core.Bool.{true, false};
-ghost use Prim.Native.Nat.{_+_, _≤_, suc};
-ghost use lib.ListN.{length};
+ghost use Prim.Native.Nat.{suc, _<_, _≤_};
 ghost use Rattle.drawing.specs.Limits.{lengthLimit, depthLimit};
 ghost use Rattle.pieces.specs.SessionPromises.{Pieces};
-ghost use Rattle.session.specs.Feeding.{withBytes};
+ghost use Rattle.session.specs.Feeding.{withBytes, Tells};
 ghost use Rattle.session.specs.Giving.{Runnable, Gives};
+
+// A group whose count comes next may be open.
+fn may_open(s: Session) -> bool
+    ensures { λ r. ⌜ Tells r (s .stage ≡ 5 → s .depth < depthLimit) ⌝ }
+{
+    if s.stage == COUNTING {
+        return s.depth < DEPTH_LIMIT;
+    }
+    true
+}
 
 // A session that can be run. All that opening began are, up to a fault.
 fn is_runnable(s: Session) -> bool
-    ensures { λ r. ⌜ (r ≡ true → Runnable s) × (r ≡ false → Runnable s → ⊥) ⌝ }
+    ensures { λ r. ⌜ Tells r (Runnable s) ⌝ }
 {
     if OBJECTS < s.stage {
         return false;
     }
-    if s.stage == COUNTING {
-        if DEPTH_LIMIT <= s.depth {
-            return false;
-        }
+    if !may_open(s) {
+        return false;
     }
     if 184 <= s.held {
         return false;

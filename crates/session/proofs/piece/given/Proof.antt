@@ -1,0 +1,88 @@
+use borrow.Author.Needs.{needs}
+use Rattle.session.proofs.piece.given.Statement.{statement}
+use Rattle.session.proofs.piece.given.Tie as tie
+use Rattle.session.proofs.piece.given.Reads as reads
+use Rattle.session.proofs.piece.given.Lts as lts
+use Rattle.session.proofs.feed.fed.Reads as fed-reads
+use Rattle.session.proofs.piece.is_runnable.Reads as is-runnable-reads
+use Rattle.session.proofs.piece.with_bytes.Reads as with-bytes-reads
+
+-- src/piece.rt:66:23
+cast-if1 : tie.Need-cast-if1
+cast-if1 c = search needs
+
+-- src/piece.rt:67:9
+returns : tie.Need-returns
+returns c = ?
+
+-- src/piece.rt:69:24
+cast-if2 : tie.Need-cast-if2
+cast-if2 c = search needs
+
+-- src/piece.rt:69:8
+sub-if2 : tie.Need-sub-if2
+sub-if2 c = search needs
+
+-- src/piece.rt:70:30
+add-with-bytes : tie.Need-add-with-bytes
+add-with-bytes c = search needs
+
+-- src/piece.rt:70:9
+with-bytes-requires : tie.Need-with-bytes-requires
+with-bytes-requires c κs = search needs
+
+-- src/piece.rt:70:9
+returns-2 : tie.Need-returns-2
+returns-2 c = ?
+
+-- src/piece.rt:72:17
+cast-total : tie.Need-cast-total
+cast-total c = search needs
+
+-- src/piece.rt:72:17
+add-total : tie.Need-add-total
+add-total c = search needs
+
+-- src/piece.rt:73:8
+is-runnable-requires : tie.Need-is-runnable-requires
+is-runnable-requires c κs = search needs
+
+-- src/piece.rt:74:20
+with-bytes-requires-2 : tie.Need-with-bytes-requires-2
+with-bytes-requires-2 c κs = search needs
+
+-- src/piece.rt:74:9
+fed-requires : tie.Need-fed-requires
+fed-requires c κs = ?
+
+-- src/piece.rt:74:9
+returns-3 : tie.Need-returns-3
+returns-3 c = ?
+
+-- src/piece.rt:76:5
+with-bytes-requires-3 : tie.Need-with-bytes-requires-3
+with-bytes-requires-3 c κs = search needs
+
+-- src/piece.rt:62:1
+returns-4 : tie.Need-returns-4
+returns-4 c = ?
+
+pub given-spec : {M : Type 1} → statement M
+given-spec =
+    tie.close
+    (tie.spec
+    cast-if1
+    returns
+    cast-if2
+    sub-if2
+    add-with-bytes
+    with-bytes-requires
+    returns-2
+    cast-total
+    add-total
+    is-runnable-requires
+    with-bytes-requires-2
+    fed-requires
+    returns-3
+    with-bytes-requires-3
+    returns-4)
