@@ -29,6 +29,11 @@ first-is n l xs long same =
     let sized = length-first n l in
     ext-getD 0 (firstOf n l) xs (sized ∙ sym long) (λ k less. first-at n l k (omega arith) ∙ same k (omega arith))
 
+pub take-first : (n : ℕ) (l : List ℕ) → n ≤ length l → take n l ≡ firstOf n l
+take-first n l there =
+    let long = length-take n l in
+    sym (first-is n l (take n l) (omega arith) (λ k less. sym (getD-take n l k 0 less)))
+
 -- One more element is stored as it should be.
 pub filled-on : (f : ℕ → ℕ) (ms : List ℕ) (i : ℕ) → i < length ms → ((k : ℕ) → k < i → getD ms k 0 ≡ f k) → (k : ℕ) → k < i + 1 → getD (set ms i (f i)) k 0 ≡ f k
 filled-on f ms i there same k less = by (eqb k i) refl

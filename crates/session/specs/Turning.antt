@@ -1,18 +1,19 @@
 -- A session that holds bytes, run over them and some of a piece.
 use mathlib.Core.Path.{_≡_, refl, sym, ap, _∙_, subst}
 use mathlib.Core.Logic.{_⊎_, inl, inr}
-use mathlib.Core.Bool.{Bool, true, false}
+use mathlib.Core.Bool.{Bool, true, false, false≢true, true≢false}
 use Prim.Native.Nat.{ℕ, zero, suc, _+_, _-_, _<_, _≤_, min}
 use native.Mathlib.Omega.{arith}
 use mathlib.Core.List.{List, [], _∷_, _++_, append-nil, append-assoc}
 use lib.ListN.{length, take, drop, length-append, length-take, length-drop, take-append-drop}
-use lib.Seq.{drop-drop, drop-append-add, drop-append-le}
+use lib.Seq.{drop-append-add, drop-append-le, take-all}
 use Rattle.pieces.specs.declared.Session.{Session}
 use Rattle.pieces.specs.Going.{room}
 use Rattle.pieces.specs.Held.{firstOf}
-use Rattle.pieces.specs.HeldLaws.{length-first}
+use Rattle.pieces.specs.HeldLaws.{length-first, take-first}
 use Rattle.pieces.specs.Session.{heldBytes}
 use Rattle.session.specs.declared.advance.Fed.{Fed}
+use Rattle.session.specs.declared.feed.Tried.{Tried}
 use Rattle.session.specs.declared.feed.Turn.{Turn}
 use Rattle.session.specs.Advancing.{Advances}
 use Rattle.session.specs.Feeding.{withHeld, stop, Able, Feeds, MayGoOn, able-on, feeds-stopped, feeds-held, feeds-on}
@@ -28,6 +29,35 @@ pub record On (s : Session) (piece : List ℕ) (t : Session) (from : ℕ) : Type
 pub record Turns (s : Session) (piece : List ℕ) (r : Turn) : Type 0 where
   pub ended : r .over ≡ true → Feeds s (heldBytes s ++ piece) (r .session)
   pub goes : r .over ≡ false → On s piece (r .session) (r .from)
+
+-- ---- a session that holds nothing
+
+module _ {s : Session} {src : List ℕ} {r : Fed} (able : Able s (length src)) (advances : Advances s src (s .bytes - length src) r) where
+  able-alone : Able s (length src + 0)
+  able-alone = let none-more : length src + 0 ≡ length src = omega arith in subst (Able s) (sym none-more) able
+
+  based-alone : s .bytes - length src + (length src + 0) ≡ s .bytes
+  based-alone = let words = able .few-words in omega arith
+
+  pub came-alone : r .at ≤ length src
+  came-alone = subst (λ n. n ≤ length src) (sym (advances .at-is)) (advances .runs .came .there)
+
+  pub alone-stopped : (MayGoOn (r .session) → ⊥) ⊎ (184 ≤ length src - r .at) → {q : Session} → q ≡ stop (r .session) → Feeds s src q
+  alone-stopped why {q} is = subst (Feeds s src) (sym is) (subst (λ l. Feeds s l (stop (r .session))) (append-nil src) (feeds-stopped advances [] able-alone based-alone (as-list why)))
+    where
+      as-list : (MayGoOn (r .session) → ⊥) ⊎ (184 ≤ length src - r .at) → (MayGoOn (r .session) → ⊥) ⊎ (room ≤ length (drop (r .at) src))
+      as-list (inl fault) = inl fault
+      as-list (inr many) = let long = length-drop (r .at) src in inr (omega arith)
+
+  pub alone-held : {left : ℕ} → left ≡ length src - r .at → left < 184 → {buffer : List ℕ} {q : Session} → firstOf (0 + left) buffer ≡ [] ++ take left (drop (r .at) src) → q ≡ withHeld (r .session) buffer left → Feeds s src q
+  alone-held {left} left-is less {buffer} {q} holds is =
+      let long = length-drop (r .at) src in
+      let none-more : left ≡ 0 + left = omega arith in
+      subst (Feeds s src) (sym is)
+      (subst (λ l. Feeds s l (withHeld (r .session) buffer left)) (append-nil src)
+      (feeds-held advances [] able-alone based-alone refl (omega arith) less (ap (λ n. firstOf n buffer) none-more ∙ holds ∙ take-all left (drop (r .at) src) (omega arith))))
+
+-- ---- one that holds bytes
 
 -- The bytes held and so many of a piece.
 pub record Joined (s : Session) (piece : List ℕ) (more : ℕ) (src : List ℕ) : Type 0 where
@@ -74,14 +104,14 @@ module _ {s : Session} {piece src : List ℕ} {more : ℕ} (joined : Joined s pi
     turned-stopped why = subst (λ l. Feeds s l (stop (r .session))) whole (feeds-stopped advances (drop more piece) able-here based-here why)
 
     -- All of them are held.
-    pub turned-held : {buffer : List ℕ} → r .at ≡ 0 → more ≡ min (length piece) (184 - s .held) → s .held + more < 184 → firstOf (s .held + more) buffer ≡ src → Feeds s (heldBytes s ++ piece) (withHeld (r .session) buffer (s .held + more))
-    turned-held {buffer} none-came most fits held =
+    pub turned-held : {buffer : List ℕ} {all : ℕ} → r .at ≡ 0 → all ≡ s .held + more → more ≡ min (length piece) (184 - s .held) → all < 184 → firstOf all buffer ≡ src → Feeds s (heldBytes s ++ piece) (withHeld (r .session) buffer all)
+    turned-held {buffer} {all} none-came all-is most fits held =
         let all-taken : more ≡ length piece = omega arith in
         let left = length-drop more piece in
         let none-later : drop more piece ≡ [] = empty (drop more piece) (omega arith) in
         let same : src ≡ drop (r .at) src = ap (λ n. drop n src) (sym none-came) in
-        subst (λ l. Feeds s l (withHeld (r .session) buffer (s .held + more))) whole
-        (feeds-held advances (drop more piece) able-here based-here none-later (sym joined-long ∙ ap length same) (omega arith) (held ∙ same))
+        subst (λ l. Feeds s l (withHeld (r .session) buffer all)) whole
+        (feeds-held advances (drop more piece) able-here based-here none-later (all-is ∙ sym joined-long ∙ ap length same) (omega arith) (held ∙ same))
       where
         empty : (l : List ℕ) → length l ≡ 0 → l ≡ []
         empty [] e = refl
@@ -126,11 +156,102 @@ module _ {s : Session} {piece src : List ℕ} {more : ℕ} (joined : Joined s pi
             ∙ drop-append-add (heldBytes s) piece (r .at - s .held)
 
     -- Something was passed: what is left of both is held.
-    pub turned-on : {buffer : List ℕ} → 0 < r .at → s .held + more ≤ 184 → firstOf (s .held + more - r .at) buffer ≡ drop (r .at) src → On s piece (withHeld (r .session) buffer (s .held + more - r .at)) more
-    turned-on {buffer} some-came fits held =
+    pub turned-on : {buffer : List ℕ} {held from : ℕ} → 0 < r .at → s .held + more ≤ 184 → held ≡ s .held + more - r .at → from ≡ more → firstOf held buffer ≡ drop (r .at) src → On s piece (withHeld (r .session) buffer held) from
+    turned-on {buffer} {held} {from} some-came fits held-is from-is holds =
         let few = joined .few in
         let long = joined-long in
         let came = came-there in
         let a = length-drop (r .at) src in
         let b = length-drop more piece in
-        goes-on few (omega arith) (omega arith) (omega arith) (ap (λ l. l ++ drop more piece) held)
+        goes-on (omega arith) (omega arith) (omega arith) (omega arith) (ap (λ l. l ++ drop from piece) holds ∙ ap (λ n. drop (r .at) src ++ drop n piece) from-is)
+
+-- ---- what was tried
+
+-- The session was run over what it held and so much of the piece as there was room for.
+pub record Tries (s : Session) (piece : List ℕ) (r : Tried) : Type 0 where
+  pub more : ℕ
+  pub all-is : r .all ≡ s .held + more
+  pub most : more ≡ min (length piece) (184 - s .held)
+  pub full : length (r .buffer) ≡ 184
+  pub joined : Joined s piece more (firstOf (r .all) (r .buffer))
+  pub base : ℕ
+  pub based : base + (s .held + length piece) ≡ s .bytes
+  pub ran : Advances s (firstOf (r .all) (r .buffer)) base (record { session = r .session; at = r .at })
+
+pub tries-made : (s : Session) (piece kept buffer : List ℕ) {more : ℕ} → Able s (s .held + length piece) → s .held < 184 → more ≡ min (length piece) (184 - s .held) → length buffer ≡ 184
+    → firstOf (s .held) kept ≡ heldBytes s → firstOf (s .held + more) buffer ≡ firstOf (s .held) kept ++ take more piece
+    → {r : Fed} → Advances s (take (s .held + more) buffer) (s .bytes - length piece - s .held) r → Tries s piece (record { session = r .session; at = r .at; buffer = buffer; all = s .held + more })
+tries-made s piece kept buffer {more} able few most full first behind {r} ran =
+    let words = able .few-words in
+    record {
+      more = more;
+      all-is = refl;
+      most = most;
+      full = full;
+      joined = record { few = omega arith; src-is = behind ∙ ap (λ l. l ++ take more piece) first };
+      base = s .bytes - length piece - s .held;
+      based = omega arith;
+      ran = subst (λ l. Advances s l (s .bytes - length piece - s .held) r) (take-first (s .held + more) buffer (omega arith)) ran;
+    }
+
+module _ {s : Session} {piece : List ℕ} {t : Tried} (tries : Tries s piece t) (able : Able s (s .held + length piece)) (some-held : 0 < s .held) (few : s .held < 184) where
+  abbrev ended-at : Session → Turn
+  ended-at q = record { session = q; from = 0; over = true }
+
+  ends : {q : Session} → Feeds s (heldBytes s ++ piece) q → Turns s piece (ended-at q)
+  ends f = record { ended = λ e. f; goes = λ e. absurd (true≢false e) }
+
+  pub fits : t .all ≤ 184
+  fits =
+      let is = tries .all-is in
+      let most = tries .most in
+      omega arith
+
+  pub turns-stopped : (MayGoOn (t .session) → ⊥) → {q : Session} → q ≡ stop (t .session) → Turns s piece (ended-at q)
+  turns-stopped fault {q} is =
+      subst (λ q. Turns s piece (ended-at q)) (sym is) (ends (turned-stopped (tries .joined) (tries .ran) able (tries .based) (inl fault)))
+
+  -- More than any part takes is there, and it is cut.
+  pub turns-full : t .at ≡ 0 → 184 ≤ t .all → {q : Session} → q ≡ stop (t .session) → Turns s piece (ended-at q)
+  turns-full none-came many {q} is =
+      subst (λ q. Turns s piece (ended-at q)) (sym is) (ends (turned-stopped (tries .joined) (tries .ran) able (tries .based) (inr enough)))
+    where
+      enough : room ≤ length (drop (t .at) (firstOf (t .all) (t .buffer)))
+      enough =
+          let a = length-drop (t .at) (firstOf (t .all) (t .buffer)) in
+          let b = length-first (t .all) (t .buffer) in
+          omega arith
+
+  pub turns-held : t .at ≡ 0 → t .all < 184 → {q : Session} → q ≡ withHeld (t .session) (t .buffer) (t .all) → Turns s piece (ended-at q)
+  turns-held none-came less {q} is =
+      subst (λ q. Turns s piece (ended-at q)) (sym is)
+      (ends (turned-held (tries .joined) (tries .ran) able (tries .based) none-came (tries .all-is) (tries .most) less refl))
+
+  pub turns-behind : s .held ≤ t .at → {q : Session} → q ≡ withHeld (t .session) (t .buffer) 0 → Turns s piece (record { session = q; from = t .at - s .held; over = false })
+  turns-behind behind {q} is =
+      subst (λ q. Turns s piece (record { session = q; from = t .at - s .held; over = false })) (sym is)
+      (record { ended = λ e. absurd (false≢true e); goes = λ e. turned-behind (tries .joined) (tries .ran) able (tries .based) behind some-held })
+
+  pub came-within : t .at ≤ t .all
+  came-within =
+      let there = tries .ran .runs .came .there in
+      let at-is = tries .ran .at-is in
+      let long = length-first (t .all) (t .buffer) in
+      omega arith
+
+  pub turns-on : (t .at ≡ 0 → ⊥) → {buffer : List ℕ} {q : Session} → firstOf (0 + (t .all - t .at)) buffer ≡ [] ++ take (t .all - t .at) (drop (t .at) (take (t .all) (t .buffer))) → q ≡ withHeld (t .session) buffer (t .all - t .at)
+      → Turns s piece (record { session = q; from = t .all - s .held; over = false })
+  turns-on some-came {buffer} {q} holds is =
+      let all-is = tries .all-is in
+      let none-more : 0 + (t .all - t .at) ≡ t .all - t .at = omega arith in
+      let full = tries .full in
+      let a = length-drop (t .at) (firstOf (t .all) (t .buffer)) in
+      let b = length-first (t .all) (t .buffer) in
+      let most = fits in
+      let left : firstOf (t .all - t .at) buffer ≡ drop (t .at) (firstOf (t .all) (t .buffer)) =
+      ap (λ n. firstOf n buffer) (sym none-more)
+      ∙ holds
+      ∙ ap (λ l. take (t .all - t .at) (drop (t .at) l)) (take-first (t .all) (t .buffer) (omega arith))
+      ∙ take-all (t .all - t .at) (drop (t .at) (firstOf (t .all) (t .buffer))) (omega arith) in
+      subst (λ q. Turns s piece (record { session = q; from = t .all - s .held; over = false })) (sym is)
+      (record { ended = λ e. absurd (false≢true e); goes = λ e. turned-on (tries .joined) (tries .ran) able (tries .based) (omega arith) (omega arith) (omega arith) (omega arith) left })

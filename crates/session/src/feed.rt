@@ -12,7 +12,7 @@ ghost use Prim.Native.Nat.{_+_, _<_, _≤_, min};
 ghost use lib.ListN.{length};
 ghost use Rattle.pieces.specs.Session.{heldBytes};
 ghost use Rattle.session.specs.Feeding.{withHeld, stop, Able, Feeds, MayGoOn, Tells};
-ghost use Rattle.session.specs.Turning.{Turns};
+ghost use Rattle.session.specs.Turning.{Tries, Turns};
 
 // So many bytes a session has room for: more than any part takes.
 const ROOM: usize = 184;
@@ -63,13 +63,42 @@ fn fed_alone(s: Session, src: &[u8]) -> Session
     let at = next.at;
     let left = src.len() - at;
     let after = next.session;
-    if goes_on(after) {
-        if left < ROOM {
+    if left < ROOM {
+        if goes_on(after) {
             let none = [0u8; 184];
             return with_held(after, appended(none, 0, src, at, left), left);
         }
+        return stopped(after);
     }
     stopped(after)
+}
+
+// What is held and so much of a piece as there is room for, so many bytes; and the session behind those of them that it came over.
+pub struct Tried {
+    pub session: Session,
+    pub at: usize,
+    pub buffer: [u8; 184],
+    pub all: usize,
+}
+
+fn run_joined(s: Session, bytes: &[u8]) -> Tried
+    requires { ⌜ Able s (s .held + length (now bytes)) × (s .held < 184) ⌝ }
+    ensures { λ r. ⌜ Tries s (now (bytes .entry)) r ⌝ }
+{
+    let held = s.held as usize;
+    let more = least(bytes.len(), ROOM - held);
+    let all = held + more;
+    let old = s.buffer;
+    let joined = appended(kept(old, held), held, bytes, 0, more);
+    let next = advance(s, &joined[..all], s.bytes as usize - bytes.len() - held);
+    let at = next.at;
+    let after = next.session;
+    Tried {
+        session: after,
+        at: at,
+        buffer: joined,
+        all: all,
+    }
 }
 
 // A session behind some bytes of a piece, or, at its end, what comes of it.
@@ -79,54 +108,50 @@ pub struct Turn {
     pub over: bool,
 }
 
-// What is held and so much of a piece as there is room for, run over together.
+// What comes of the bytes held with some of a piece.
 fn turned(s: Session, bytes: &[u8]) -> Turn
     requires { ⌜ Able s (s .held + length (now bytes)) × (0 < s .held) × (s .held < 184) ⌝ }
     ensures { λ r. ⌜ Turns s (now (bytes .entry)) r ⌝ }
 {
-    let held = s.held as usize;
-    let more = least(bytes.len(), ROOM - held);
-    let all = held + more;
-    let old = s.buffer;
-    let joined = appended(kept(old, held), held, bytes, 0, more);
-    let src = &joined[..all];
-    let next = advance(s, src, s.bytes as usize - bytes.len() - held);
-    let came = next.at;
-    let after = next.session;
-    if !goes_on(after) {
-        return Turn {
-            session: stopped(after),
-            from: 0,
-            over: true,
-        };
-    }
-    if came == 0 {
-        if all < ROOM {
+    let t = run_joined(s, bytes);
+    let came = t.at;
+    let all = t.all;
+    let buffer = t.buffer;
+    let after = t.session;
+    if goes_on(after) {
+        if came == 0 {
+            if all < ROOM {
+                return Turn {
+                    session: with_held(after, buffer, all),
+                    from: 0,
+                    over: true,
+                };
+            }
             return Turn {
-                session: with_held(after, joined, all),
+                session: stopped(after),
                 from: 0,
                 over: true,
             };
         }
+        let held = s.held as usize;
+        if held <= came {
+            return Turn {
+                session: with_held(after, buffer, 0),
+                from: came - held,
+                over: false,
+            };
+        }
+        let none = [0u8; 184];
         return Turn {
-            session: stopped(after),
-            from: 0,
-            over: true,
-        };
-    }
-    if held <= came {
-        let rest = after.buffer;
-        return Turn {
-            session: with_held(after, rest, 0),
-            from: came - held,
+            session: with_held(after, appended(none, 0, &buffer[..all], came, all - came), all - came),
+            from: all - held,
             over: false,
         };
     }
-    let none = [0u8; 184];
     Turn {
-        session: with_held(after, appended(none, 0, src, came, all - came), all - came),
-        from: more,
-        over: false,
+        session: stopped(after),
+        from: 0,
+        over: true,
     }
 }
 

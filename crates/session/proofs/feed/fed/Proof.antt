@@ -11,59 +11,59 @@ Inv-loop bytes t₀ from₀ t from = ?
 abbrev μ-loop : tie.MeasureT-loop
 μ-loop bytes t₀ from₀ t from = ?
 
--- src/feed.rt:140:5
+-- src/feed.rt:165:5
 loop-holds : tie.Need-loop-holds Inv-loop μ-loop
 loop-holds c = ?
 
--- src/feed.rt:141:30
+-- src/feed.rt:166:30
 sub-turned : tie.Need-sub-turned Inv-loop μ-loop
 sub-turned c = ?
 
--- src/feed.rt:141:30
+-- src/feed.rt:166:30
 part-turned-start : tie.Need-part-turned-start Inv-loop μ-loop
 part-turned-start c = ?
 
--- src/feed.rt:141:30
+-- src/feed.rt:166:30
 part-turned-end : tie.Need-part-turned-end Inv-loop μ-loop
 part-turned-end c = ?
 
--- src/feed.rt:141:13
+-- src/feed.rt:166:13
 turned-requires : tie.Need-turned-requires Inv-loop μ-loop
 turned-requires c κs = ?
 
--- src/feed.rt:143:13
+-- src/feed.rt:168:13
 returns : tie.Need-returns Inv-loop μ-loop
 returns c = ?
 
--- src/feed.rt:145:16
+-- src/feed.rt:170:16
 add-from : tie.Need-add-from Inv-loop μ-loop
 add-from c = ?
 
--- src/feed.rt:140:5
+-- src/feed.rt:165:5
 loop-less : tie.Need-loop-less Inv-loop μ-loop
 loop-less c = ?
 
--- src/feed.rt:140:5
+-- src/feed.rt:165:5
 loop-again : tie.Need-loop-again Inv-loop μ-loop
 loop-again c = ?
 
--- src/feed.rt:148:18
+-- src/feed.rt:173:18
 sub-fed-alone : tie.Need-sub-fed-alone Inv-loop μ-loop
 sub-fed-alone c = ?
 
--- src/feed.rt:148:18
+-- src/feed.rt:173:18
 part-fed-alone-start : tie.Need-part-fed-alone-start Inv-loop μ-loop
 part-fed-alone-start c = ?
 
--- src/feed.rt:148:18
+-- src/feed.rt:173:18
 part-fed-alone-end : tie.Need-part-fed-alone-end Inv-loop μ-loop
 part-fed-alone-end c = ?
 
--- src/feed.rt:148:5
+-- src/feed.rt:173:5
 fed-alone-requires : tie.Need-fed-alone-requires Inv-loop μ-loop
 fed-alone-requires c κs = ?
 
--- src/feed.rt:134:1
+-- src/feed.rt:159:1
 returns-2 : tie.Need-returns-2 Inv-loop μ-loop
 returns-2 c = ?
 
