@@ -1,7 +1,7 @@
 -- A piece given to a session: which sessions are run over it, and what they stand for then.
 use mathlib.Core.Path.{_≡_, refl, sym, ap, _∙_, subst}
 use mathlib.Core.Logic.{_⊎_, inl, inr}
-use mathlib.Core.Bool.{Bool, true, false, cond, false≢true}
+use mathlib.Core.Bool.{Bool, true, false, cond, _||_, false≢true, true≢false}
 use Prim.Native.Nat.{ℕ, suc, _+_, _-_, _<_, _≤_}
 use native.Mathlib.Omega.{arith}
 use mathlib.Core.List.{List, [], _∷_, _++_, append-assoc}
@@ -132,13 +132,16 @@ module _ (s : Session) (piece : List ℕ) where
             }
 
     module _ (runs : Runnable s) (deep : s .depth ≤ depthLimit) (fits : s .bytes + length piece ≤ lengthLimit) where
-      pub able-given : Able (withBytes s (s .bytes + length piece)) (s .held + length piece)
+      able-given : Able (withBytes s (s .bytes + length piece)) (s .held + length piece)
       able-given =
           let words = runs .few-words in
           let rows = runs .few-rows in
           record { sound = record { staged = runs .staged; shallow = deep; may-open = runs .may-open }; short = fits; few-words = omega arith; few-rows = omega arith }
 
-      pub gives-fed : {r : Session} → Feeds (withBytes s (s .bytes + length piece)) (heldBytes s ++ piece) r → Gives s piece r
+      pub fed-needs : {t : Session} → t ≡ withBytes s (s .bytes + length piece) → Able t (t .held + length piece) × (t .held < 184)
+      fed-needs is = subst (λ t. Able t (t .held + length piece) × (t .held < 184)) (sym is) (able-given, runs .few-held)
+
+      gives-fed : {r : Session} → Feeds (withBytes s (s .bytes + length piece)) (heldBytes s ++ piece) r → Gives s piece r
       gives-fed {r} feeds =
           record {
             same-spent = feeds .same-spent;
@@ -173,7 +176,17 @@ module _ (s : Session) (piece : List ℕ) where
                     ∙ ap (λ l. plus (s .words) (tallied (rest (standing s)) l)) (sym (append-assoc (heldBytes s) piece more));
               })
 
+      pub gives-run : {t r : Session} → t ≡ withBytes s (s .bytes + length piece) → Feeds t (heldBytes t ++ piece) r → Gives s piece r
+      gives-run {t} {r} is feeds = gives-fed (subst (λ t. Feeds t (heldBytes t ++ piece) r) is feeds)
+
 -- ---- the call
+
+pub fit-numbers : (s : Session) → unfit s ≡ false → (s .depth ≤ depthLimit) × (s .bytes ≤ suc lengthLimit)
+fit-numbers s fit = by (ltb depthLimit (s .depth)) refl fit
+  where
+    by : (t : Bool) → ltb depthLimit (s .depth) ≡ t → t || ltb (suc lengthLimit) (s .bytes) ≡ false → (s .depth ≤ depthLimit) × (s .bytes ≤ suc lengthLimit)
+    by true e h = absurd (true≢false h)
+    by false e h = (ltb-false depthLimit (s .depth) e, ltb-false (suc lengthLimit) (s .bytes) h)
 
 module _ {s : Session} {piece : List ℕ} {r : Answer} where
   pub pieces-unfit : unfit s ≡ true → r ≡ answer 22 0 0 0 → Pieces s piece s r

@@ -6,7 +6,7 @@ use Prim.Native.Nat.{ℕ, zero, suc, _+_, _-_, _<_, _≤_, min}
 use native.Mathlib.Omega.{arith}
 use mathlib.Core.List.{List, [], _∷_, _++_, append-nil, append-assoc}
 use lib.ListN.{length, take, drop, length-append, length-take, length-drop, take-append-drop}
-use lib.Seq.{drop-append-add, drop-append-le, take-all}
+use lib.Seq.{drop-drop, drop-append-add, drop-append-le, take-all}
 use Rattle.pieces.specs.declared.Session.{Session}
 use Rattle.pieces.specs.Going.{room}
 use Rattle.pieces.specs.Held.{firstOf}
@@ -255,3 +255,67 @@ module _ {s : Session} {piece : List ℕ} {t : Tried} (tries : Tries s piece t) 
       ∙ take-all (t .all - t .at) (drop (t .at) (firstOf (t .all) (t .buffer))) (omega arith) in
       subst (λ q. Turns s piece (record { session = q; from = t .all - s .held; over = false })) (sym is)
       (record { ended = λ e. absurd (false≢true e); goes = λ e. turned-on (tries .joined) (tries .ran) able (tries .based) (omega arith) (omega arith) (omega arith) (omega arith) left })
+
+-- ---- one turn after another
+
+-- A session that was run over some of a piece: what comes of what is left of it comes of the whole.
+pub record Along (s : Session) (piece : List ℕ) (t : Session) (from : ℕ) : Type 0 where
+  pub there : from ≤ length piece
+  pub able : Able t (t .held + (length piece - from))
+  pub few-held : t .held < 184
+  pub feeds : {q : Session} → Feeds t (heldBytes t ++ drop from piece) q → Feeds s (heldBytes s ++ piece) q
+
+pub along-start : {s : Session} {piece : List ℕ} → Able s (s .held + length piece) → s .held < 184 → Along s piece s 0
+along-start {s} {piece} able few =
+    let none-gone : length piece ≡ length piece - 0 = omega arith in
+    record { there = omega arith; able = subst (λ n. Able s (s .held + n)) none-gone able; few-held = few; feeds = λ f. f }
+
+module _ {s t : Session} {piece : List ℕ} {from : ℕ} (along : Along s piece t from) where
+  -- What is left of the piece, as a slice from a place on has it.
+  left-is : take (length piece - from) (drop from piece) ≡ drop from piece
+  left-is = let long = length-drop from piece in take-all (length piece - from) (drop from piece) (omega arith)
+
+  left-long : length (drop from piece) ≡ length piece - from
+  left-long = length-drop from piece
+
+  pub able-turn : Able t (t .held + length (take (length piece - from) (drop from piece)))
+  able-turn = subst (λ n. Able t (t .held + n)) (sym (ap length left-is ∙ left-long)) (along .able)
+
+  pub able-last : t .held ≡ 0 → Able t (length (take (length piece - from) (drop from piece)))
+  able-last none-held =
+      let long = ap length left-is ∙ left-long in
+      let same : t .held + (length piece - from) ≡ length (take (length piece - from) (drop from piece)) = omega arith in
+      subst (Able t) same (along .able)
+
+  module _ {r : Turn} (turned : Turns t (take (length piece - from) (drop from piece)) r) where
+    turns : Turns t (drop from piece) r
+    turns = subst (λ l. Turns t l r) left-is turned
+
+    pub along-ended : r .over ≡ true → Feeds s (heldBytes s ++ piece) (r .session)
+    along-ended over = along .feeds (turns .ended over)
+
+    pub along-less : r .over ≡ false → (from + r .from ≤ length piece) × (r .session .held + (length piece - (from + r .from)) < t .held + (length piece - from))
+    along-less more =
+        let on = turns .goes more in
+        let long = left-long in
+        let there = on .there in
+        let before = along .there in
+        let less = on .less in
+        (omega arith, omega arith)
+
+    pub along-on : r .over ≡ false → Along s piece (r .session) (from + r .from)
+    along-on more =
+        let on = turns .goes more in
+        let long = left-long in
+        let there = on .there in
+        let before = along .there in
+        let same : length (drop from piece) - r .from ≡ length piece - (from + r .from) = omega arith in
+        record {
+          there = omega arith;
+          able = subst (λ n. Able (r .session) (r .session .held + n)) same (on .able);
+          few-held = on .few-held;
+          feeds = λ {q} f. along .feeds (on .feeds (subst (λ l. Feeds (r .session) (heldBytes (r .session) ++ l) q) (sym (drop-drop (r .from) from piece)) f));
+        }
+
+  pub along-last : t .held ≡ 0 → {q : Session} → Feeds t (take (length piece - from) (drop from piece)) q → Feeds s (heldBytes s ++ piece) q
+  along-last none-held {q} f = along .feeds (subst (λ n. Feeds t (firstOf n (t .buffer) ++ drop from piece) q) (sym none-held) (subst (λ l. Feeds t l q) left-is f))

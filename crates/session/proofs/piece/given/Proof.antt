@@ -1,3 +1,6 @@
+use Rattle.session.specs.Giving.{Gives, gives-same, gives-long, gives-counted, fed-needs, gives-run}
+use mathlib.Core.Path.{sym, subst}
+use native.Mathlib.Omega.{arith}
 use borrow.Author.Needs.{needs}
 use Rattle.session.proofs.piece.given.Statement.{statement}
 use Rattle.session.proofs.piece.given.Tie as tie
@@ -13,7 +16,9 @@ cast-if1 c = search needs
 
 -- src/piece.rt:67:9
 returns : tie.Need-returns
-returns c = ?
+returns c = 
+    let at-args = c .before .before .before in
+    gives-same (at-args .args .s) (at-args .args .bytes .now) (omega arith)
 
 -- src/piece.rt:69:24
 cast-if2 : tie.Need-cast-if2
@@ -33,7 +38,9 @@ with-bytes-requires c κs = search needs
 
 -- src/piece.rt:70:9
 returns-2 : tie.Need-returns-2
-returns-2 c = ?
+returns-2 c = 
+    let at-args = c .before .before .before .before .before .before in
+    subst (Gives (at-args .args .s) (at-args .args .bytes .now)) (sym (c .with-bytes .ensures)) (gives-long (at-args .args .s) (at-args .args .bytes .now) (omega arith) (omega arith))
 
 -- src/piece.rt:72:17
 cast-total : tie.Need-cast-total
@@ -53,11 +60,20 @@ with-bytes-requires-2 c κs = search needs
 
 -- src/piece.rt:74:9
 fed-requires : tie.Need-fed-requires
-fed-requires c κs = ?
+fed-requires c κs = 
+    let at-if3 = c .before in
+    let at-is-runnable = at-if3 .before in
+    let at-args = at-is-runnable .before .before .before .before .before .before .before in
+    fed-needs (at-args .args .s) (at-args .args .bytes .now) (omega arith) (at-is-runnable .is-runnable .ensures .yes (at-if3 .if3 .taken)) (at-args .pre .0) (omega arith) (c .with-bytes2 .ensures)
 
 -- src/piece.rt:74:9
 returns-3 : tie.Need-returns-3
-returns-3 c = ?
+returns-3 c = 
+    let at-with-bytes2 = c .before in
+    let at-if3 = at-with-bytes2 .before in
+    let at-is-runnable = at-if3 .before in
+    let at-args = at-is-runnable .before .before .before .before .before .before .before in
+    gives-run (at-args .args .s) (at-args .args .bytes .now) (omega arith) (at-is-runnable .is-runnable .ensures .yes (at-if3 .if3 .taken)) (at-args .pre .0) (omega arith) (at-with-bytes2 .with-bytes2 .ensures) (c .fed .ensures)
 
 -- src/piece.rt:76:5
 with-bytes-requires-3 : tie.Need-with-bytes-requires-3
@@ -65,7 +81,11 @@ with-bytes-requires-3 c κs = search needs
 
 -- src/piece.rt:62:1
 returns-4 : tie.Need-returns-4
-returns-4 c = ?
+returns-4 c = 
+    let at-if3 = c .before in
+    let at-is-runnable = at-if3 .before in
+    let at-args = at-is-runnable .before .before .before .before .before .before .before in
+    subst (Gives (at-args .args .s) (at-args .args .bytes .now)) (sym (c .with-bytes3 .ensures)) (gives-counted (at-args .args .s) (at-args .args .bytes .now) (omega arith) (omega arith) (at-is-runnable .is-runnable .ensures .no (at-if3 .if3 .left)))
 
 pub given-spec : {M : Type 1} → statement M
 given-spec =
