@@ -20,6 +20,7 @@ pub mod model;
 pub mod plans;
 pub mod random;
 pub mod read;
+pub mod session;
 pub mod sheet;
 pub mod table;
 pub mod version;

@@ -84,6 +84,37 @@ extern "C" {
         bodies: *mut u32,
         bodies_len: usize,
     ) -> Answer;
+
+    #[cfg(feature = "session")]
+    fn jdr_session_open(session: *mut Session) -> Answer;
+
+    #[cfg(feature = "session")]
+    fn jdr_session_piece(session: *mut Session, bytes: *const u8, bytes_len: usize) -> Answer;
+
+    #[cfg(feature = "session")]
+    fn jdr_session_verdict(session: *mut Session) -> Answer;
+}
+
+/// `struct jdr_session`, as words: only two of its fields have a meaning outside the library.
+#[repr(C, align(8))]
+#[derive(Clone, Copy, PartialEq, Eq)]
+pub struct Session {
+    pub words: [u32; Session::WORDS],
+}
+
+impl Session {
+    pub const WORDS: usize = 82;
+    /// Which words are the fields `depth` and `bytes`.
+    pub const DEPTH: usize = 1;
+    pub const BYTES: usize = 2;
+
+    pub fn depth(&self) -> u32 {
+        self.words[Session::DEPTH]
+    }
+
+    pub fn bytes(&self) -> u32 {
+        self.words[Session::BYTES]
+    }
 }
 
 /// A run that is lent for reading: a pointer and a length in elements.
@@ -170,5 +201,35 @@ pub fn sheet_read(sheet: Given<u8>, contents: Lent<u32>, bodies: Lent<u32>) -> O
 
 #[cfg(not(feature = "sheet_read"))]
 pub fn sheet_read(_: Given<u8>, _: Lent<u32>, _: Lent<u32>) -> Option<Answer> {
+    None
+}
+
+#[cfg(feature = "session")]
+pub fn session_open(session: &mut Session) -> Option<Answer> {
+    Some(unsafe { jdr_session_open(session) })
+}
+
+#[cfg(not(feature = "session"))]
+pub fn session_open(_: &mut Session) -> Option<Answer> {
+    None
+}
+
+#[cfg(feature = "session")]
+pub fn session_piece(session: &mut Session, bytes: Given<u8>) -> Option<Answer> {
+    Some(unsafe { jdr_session_piece(session, bytes.0, bytes.1) })
+}
+
+#[cfg(not(feature = "session"))]
+pub fn session_piece(_: &mut Session, _: Given<u8>) -> Option<Answer> {
+    None
+}
+
+#[cfg(feature = "session")]
+pub fn session_verdict(session: &mut Session) -> Option<Answer> {
+    Some(unsafe { jdr_session_verdict(session) })
+}
+
+#[cfg(not(feature = "session"))]
+pub fn session_verdict(_: &mut Session) -> Option<Answer> {
     None
 }
