@@ -2,6 +2,7 @@
 //! that lacks the call could not be linked.
 
 use second::answer::{Answer, BoxAnswer, PaintAnswer, TextAnswer};
+use second::session::LentSession;
 
 #[link(name = "jdr_c", kind = "static")]
 extern "C" {
@@ -86,35 +87,13 @@ extern "C" {
     ) -> Answer;
 
     #[cfg(feature = "session")]
-    fn jdr_session_open(session: *mut Session) -> Answer;
+    fn jdr_session_open(session: *mut LentSession) -> Answer;
 
     #[cfg(feature = "session")]
-    fn jdr_session_piece(session: *mut Session, bytes: *const u8, bytes_len: usize) -> Answer;
+    fn jdr_session_piece(session: *mut LentSession, bytes: *const u8, bytes_len: usize) -> Answer;
 
     #[cfg(feature = "session")]
-    fn jdr_session_verdict(session: *mut Session) -> Answer;
-}
-
-/// `struct jdr_session`, as words: only two of its fields have a meaning outside the library.
-#[repr(C, align(8))]
-#[derive(Clone, Copy, PartialEq, Eq)]
-pub struct Session {
-    pub words: [u32; Session::WORDS],
-}
-
-impl Session {
-    pub const WORDS: usize = 82;
-    /// Which words are the fields `depth` and `bytes`.
-    pub const DEPTH: usize = 1;
-    pub const BYTES: usize = 2;
-
-    pub fn depth(&self) -> u32 {
-        self.words[Session::DEPTH]
-    }
-
-    pub fn bytes(&self) -> u32 {
-        self.words[Session::BYTES]
-    }
+    fn jdr_session_verdict(session: *mut LentSession) -> Answer;
 }
 
 /// A run that is lent for reading: a pointer and a length in elements.
@@ -205,31 +184,31 @@ pub fn sheet_read(_: Given<u8>, _: Lent<u32>, _: Lent<u32>) -> Option<Answer> {
 }
 
 #[cfg(feature = "session")]
-pub fn session_open(session: &mut Session) -> Option<Answer> {
+pub fn session_open(session: &mut LentSession) -> Option<Answer> {
     Some(unsafe { jdr_session_open(session) })
 }
 
 #[cfg(not(feature = "session"))]
-pub fn session_open(_: &mut Session) -> Option<Answer> {
+pub fn session_open(_: &mut LentSession) -> Option<Answer> {
     None
 }
 
 #[cfg(feature = "session")]
-pub fn session_piece(session: &mut Session, bytes: Given<u8>) -> Option<Answer> {
+pub fn session_piece(session: &mut LentSession, bytes: Given<u8>) -> Option<Answer> {
     Some(unsafe { jdr_session_piece(session, bytes.0, bytes.1) })
 }
 
 #[cfg(not(feature = "session"))]
-pub fn session_piece(_: &mut Session, _: Given<u8>) -> Option<Answer> {
+pub fn session_piece(_: &mut LentSession, _: Given<u8>) -> Option<Answer> {
     None
 }
 
 #[cfg(feature = "session")]
-pub fn session_verdict(session: &mut Session) -> Option<Answer> {
+pub fn session_verdict(session: &mut LentSession) -> Option<Answer> {
     Some(unsafe { jdr_session_verdict(session) })
 }
 
 #[cfg(not(feature = "session"))]
-pub fn session_verdict(_: &mut Session) -> Option<Answer> {
+pub fn session_verdict(_: &mut LentSession) -> Option<Answer> {
     None
 }

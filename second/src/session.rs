@@ -56,7 +56,21 @@ pub fn of_file(file: &[u8]) -> Answer {
     }
 }
 
-/// Whether a piece and a verdict are refused with 22: by the depth and the count of bytes that a lent session holds.
-pub fn is_refused(depth: u32, bytes: u32) -> bool {
-    depth > DEEPEST_GROUP || bytes as usize > MOST_BYTES
+/// `struct jdr_session` of the C interface, as words: only two of its fields have a meaning outside the library.
+#[repr(C, align(8))]
+#[derive(Clone, Copy, PartialEq, Eq)]
+pub struct LentSession {
+    pub words: [u32; LentSession::WORDS],
+}
+
+impl LentSession {
+    pub const WORDS: usize = 82;
+    /// Which words are the fields `depth` and `bytes`.
+    pub const DEPTH: usize = 1;
+    pub const BYTES: usize = 2;
+
+    /// Whether a piece and a verdict are refused with 22: by the depth and the count of bytes that the session holds.
+    pub fn is_refused(&self) -> bool {
+        self.words[LentSession::DEPTH] > DEEPEST_GROUP || self.words[LentSession::BYTES] as usize > MOST_BYTES
+    }
 }

@@ -12,7 +12,7 @@ use second::model::Object;
 use second::plans::{marked, plan_a};
 use second::random::Random;
 use second::read;
-use second::session::{is_refused, Session};
+use second::session::{LentSession, Session};
 use second::table::read_call;
 use second::version::{Version, LONGEST_FILE};
 use second::write;
@@ -145,7 +145,10 @@ fn what_no_opening_began_is_told_by_depth_and_bytes() {
         (u32::MAX, 65_536, true),
         (16, u32::MAX, true),
     ] {
-        assert_eq!(is_refused(depth, bytes), refused, "{depth} {bytes}");
+        let mut lent = LentSession { words: [7; LentSession::WORDS] };
+        lent.words[LentSession::DEPTH] = depth;
+        lent.words[LentSession::BYTES] = bytes;
+        assert_eq!(lent.is_refused(), refused, "{depth} {bytes}");
     }
 }
 

@@ -5,7 +5,7 @@ use super::report::Call;
 use super::runs::Run;
 use crate::library;
 use second::answer::Answer;
-use second::session::{is_refused, Session, NO_SESSION};
+use second::session::{LentSession, Session, NO_SESSION};
 
 /// What was asked of a session: so many pieces of one length, one after the other, or another call.
 #[derive(Clone, Copy)]
@@ -19,8 +19,8 @@ enum Step {
 #[derive(Clone)]
 pub struct Pair {
     ours: Session,
-    theirs: Run<library::Session>,
-    before: Run<library::Session>,
+    theirs: Run<LentSession>,
+    before: Run<LentSession>,
     /// All pieces since it was opened, and the calls, for what is written down.
     joined: Vec<u8>,
     steps: Vec<Step>,
@@ -28,18 +28,18 @@ pub struct Pair {
 
 impl Pair {
     /// The library's session holds this before it is opened.
-    pub fn new(comparer: &mut Comparer, holding: library::Session) -> Pair {
-        let fill = library::Session { words: [comparer.random.word(); library::Session::WORDS] };
+    pub fn new(comparer: &mut Comparer, holding: LentSession) -> Pair {
+        let fill = LentSession { words: [comparer.random.word(); LentSession::WORDS] };
         let theirs = Run::holding(&mut comparer.random, &[holding], fill);
         let (joined, steps) = (Vec::new(), Vec::new());
         Pair { ours: Session::default(), before: theirs.clone(), theirs, joined, steps }
     }
 
-    pub fn lent(&self) -> library::Session {
+    pub fn lent(&self) -> LentSession {
         self.theirs.inner()[0]
     }
 
-    fn lent_mut(&mut self) -> &mut library::Session {
+    fn lent_mut(&mut self) -> &mut LentSession {
         &mut self.theirs.inner_mut()[0]
     }
 
@@ -143,11 +143,11 @@ impl Comparer {
         &mut self,
         call: Call,
         pair: &Pair,
-        before: library::Session,
+        before: LentSession,
         theirs: Answer,
         mut memory: Vec<(&'static str, Option<isize>)>,
     ) {
-        let refused = is_refused(before.depth(), before.bytes());
+        let refused = before.is_refused();
         let ours = match (refused, theirs.number) {
             (true, _) => Answer::refused(NO_SESSION, 0),
             (false, NO_SESSION) => Answer::default(),

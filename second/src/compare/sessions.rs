@@ -3,11 +3,11 @@
 use super::calls::Comparer;
 use super::rounds::times;
 use super::session_calls::Pair;
-use crate::library::Session;
 use second::damage::cuts;
 use second::damage::fields::Field;
 use second::damage::files;
 use second::random::Random;
+use second::session::LentSession;
 use second::version::LONGEST_FILE;
 
 /// Files of fewer bytes are cut everywhere.
@@ -49,7 +49,7 @@ pub fn round(comparer: &mut Comparer, file: &[u8], fields: &[Field]) {
 }
 
 /// A session that holds something else before it is opened: made-up contents, or what another one holds with some of it changed.
-fn made_up_pair(comparer: &mut Comparer, from: Option<Session>) -> Pair {
+fn made_up_pair(comparer: &mut Comparer, from: Option<LentSession>) -> Pair {
     let holding = contents(&mut comparer.random, from);
     Pair::new(comparer, holding)
 }
@@ -179,19 +179,19 @@ fn some_word(random: &mut Random) -> u32 {
 }
 
 /// Any words; or those of an honest session, some of them changed. Depth and count of bytes are often such that the session is taken.
-fn contents(random: &mut Random, from: Option<Session>) -> Session {
-    let mut session = Session { words: [some_word(random); Session::WORDS] };
+fn contents(random: &mut Random, from: Option<LentSession>) -> LentSession {
+    let mut session = LentSession { words: [some_word(random); LentSession::WORDS] };
     if let Some(honest) = from {
         session = honest;
         for _ in 0..random.within(0, 4) {
-            session.words[random.below(Session::WORDS)] = some_word(random);
+            session.words[random.below(LentSession::WORDS)] = some_word(random);
         }
     } else if !random.once_in(4) {
         session.words = session.words.map(|_| some_word(random));
     }
     if random.flag() {
-        session.words[Session::DEPTH] = random.within(0, 18) as u32;
-        session.words[Session::BYTES] = random.within(0, LONGEST_FILE + 3) as u32;
+        session.words[LentSession::DEPTH] = random.within(0, 18) as u32;
+        session.words[LentSession::BYTES] = random.within(0, LONGEST_FILE + 3) as u32;
     }
     session
 }
