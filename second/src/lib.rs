@@ -17,6 +17,7 @@ pub mod list;
 pub mod lister;
 pub mod make;
 pub mod model;
+pub mod pipe;
 pub mod plans;
 pub mod random;
 pub mod read;

@@ -9,6 +9,7 @@ use second::damage::fields::of_file;
 use second::damage::files;
 use second::generate::special::{padded, plain_bitmap, plain_drawing};
 use second::model::Object;
+use second::pipe;
 use second::plans::{marked, plan_a};
 use second::random::Random;
 use second::read;
@@ -167,4 +168,15 @@ fn pieces_between_cuts_are_the_file() {
     assert!(empty);
     assert_eq!(cuts::every(10, 4), [4, 8]);
     assert_eq!(cuts::every(8, 4), [4]);
+}
+
+#[test]
+fn a_pipe_is_judged_as_its_file() {
+    for most in [1, 7, 512] {
+        let line = |file: &[u8]| pipe::line(file, most).unwrap();
+        assert_eq!(line(&plan_a()), ("verdict: 0 82 2 20".to_string(), true));
+        assert_eq!(line(&plan_a()[..81]), ("verdict: 2 81 0 0".to_string(), false));
+        assert_eq!(line(&[0; 70_000]), ("verdict: 1 65535 0 0".to_string(), false));
+        assert_eq!(line(&[]), ("verdict: 2 0 0 0".to_string(), false));
+    }
 }
