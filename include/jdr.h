@@ -46,7 +46,7 @@ enum {
 /* A longer file is refused. */
 #define JDR_LONGEST_FILE 65535
 
-/* A group inside more groups than this, itself counted too, is refused. */
+/* A deeper group is refused; the outer group has depth 1. */
 #define JDR_DEEPEST_GROUP 16
 
 /* The words of a row of the contents: kind, row of the parent (0 for row 0), start and length of the body in the bodies. */
@@ -114,9 +114,9 @@ struct jdr_box {
     double left, bottom, right, top;
 };
 
-/* A checking session: what is known of a plan that comes in pieces. It is the caller's, and may hold anything before jdr_session_open. Its
- * fields are the library's; the two with a meaning for callers are `depth`, how many groups are open, and `bytes`, how many bytes it was
- * given, at most JDR_LONGEST_FILE + 1. It holds no pointer: a copy is a session of its own, as far as the one it was copied from. */
+/* A checking session: what is known so far of a plan that comes in pieces. The caller owns it, and it may hold anything before
+ * jdr_session_open. Its fields are the library's own; two of them mean something to callers: `depth` is how many groups are open, and `bytes`
+ * how many bytes were given, counted up to JDR_LONGEST_FILE + 1. It may be copied: the copy then goes on by itself. */
 struct jdr_session {
     uint32_t spent, depth, bytes, number, offset, rows, words, version, stage, width, segments, held;
     uint64_t parts, run, x, y;
@@ -154,20 +154,20 @@ struct jdr_answer jdr_sheet_read(const uint8_t *sheet, size_t sheet_len, uint32_
 struct jdr_answer jdr_list(const uint32_t *contents, size_t contents_len, const uint32_t *bodies, size_t bodies_len, const uint16_t *label,
                            size_t label_len, uint32_t *entries, size_t entries_len);
 
-/* A plan can be checked piece by piece, as it arrives, without being stored: open a session, give it the pieces in order, ask for the
- * verdict. The session is a pointer to one struct, never NULL. */
+/* The next three calls check a plan piece by piece, as it arrives, without storing it: open a session, give it the pieces in order, ask for
+ * the verdict. Each takes a pointer to the session, which is never NULL, and lies apart from the bytes that are given. */
 
 /* Begins a session anew, whatever it holds. Always 0, with offset and counts 0. */
 struct jdr_answer jdr_session_open(struct jdr_session *session);
 
-/* Gives an opened session the next bytes of the file, as many as there are, none too. They are not needed afterwards. 0 with offset and
- * counts 0, whatever is wrong with the file: the verdict tells. After a verdict it changes nothing. 22 where depth is over
- * JDR_DEEPEST_GROUP or bytes over JDR_LONGEST_FILE + 1, which no opened session comes to. */
+/* Gives an opened session the next bytes of the file, however many, none too; they are not needed afterwards. 0 with offset and counts 0,
+ * even where the file is at fault: only the verdict tells. After a verdict a piece changes nothing. 22, with the session unchanged, exactly
+ * where its depth is over JDR_DEEPEST_GROUP or its bytes are over JDR_LONGEST_FILE + 1; an opened session never comes to that. */
 struct jdr_answer jdr_session_piece(struct jdr_session *session, const uint8_t *bytes, size_t bytes_len);
 
-/* The verdict on the bytes so far: what jdr_read answers for them as one file, with room enough. 0 with the file's length and the counts
- * of rows and words that its table would have; or 1 to 13, never 5. It spends the session: until that is opened anew the verdict is
- * repeated. To ask before the end and go on, ask a copy. 22 as for a piece. */
+/* The verdict on the bytes so far: what jdr_read answers for all of them as one file, with room enough. 0 with the file's length and the
+ * counts of its table; or 1 to 13, never 5. A file that grows too long is 1, whatever else is wrong with it. A verdict spends the session:
+ * until it is opened anew the verdict is repeated. To ask before the end and go on, ask a copy. 22 as for a piece. */
 struct jdr_answer jdr_session_verdict(struct jdr_session *session);
 
 /* The numbers of the three questions about a row are others: */

@@ -80,6 +80,12 @@ fn byte_by_byte(comparer: &mut Comparer, pair: &mut Pair, file: &[u8]) {
 /// Random pieces, empty ones among them; then more pieces, which change nothing, and the verdict once more.
 fn in_pieces(comparer: &mut Comparer, pair: &mut Pair, file: &[u8]) {
     open(comparer, pair, "in pieces");
+    if comparer.random.once_in(4) {
+        // some other beginning, which is left and never asked about
+        let kept = comparer.random.within(0, file.len());
+        comparer.session_piece(pair, &file[file.len() - kept..]);
+        open(comparer, pair, "begun twice");
+    }
     let cuts = cuts::any(&mut comparer.random, file.len());
     give(comparer, pair, file, &cuts);
     comparer.session_verdict(pair);
