@@ -7,6 +7,9 @@ use crate::library;
 use second::answer::Answer;
 use second::session::{LentSession, Session, NO_SESSION};
 
+/// Where lent memory is not what it has to be, by its name.
+type Memory = Vec<(&'static str, Option<isize>)>;
+
 /// What was asked of a session: so many pieces of one length, one after the other, or another call.
 #[derive(Clone, Copy)]
 enum Step {
@@ -125,11 +128,7 @@ impl Comparer {
         }
     }
 
-    fn lend_piece(
-        &mut self,
-        pair: &mut Pair,
-        bytes: &[u8],
-    ) -> Option<(Answer, Vec<(&'static str, Option<isize>)>)> {
+    fn lend_piece(&mut self, pair: &mut Pair, bytes: &[u8]) -> Option<(Answer, Memory)> {
         let fill = self.random.word() as u8;
         let given = Run::holding(&mut self.random, bytes, fill);
         let given_before = given.clone();
@@ -145,7 +144,7 @@ impl Comparer {
         pair: &Pair,
         before: LentSession,
         theirs: Answer,
-        mut memory: Vec<(&'static str, Option<isize>)>,
+        mut memory: Memory,
     ) {
         let refused = before.is_refused();
         let ours = match (refused, theirs.number) {
@@ -159,14 +158,7 @@ impl Comparer {
         self.report.compared(call, &words(ours), &words(theirs), memory, detail, data);
     }
 
-    fn session_compared(
-        &mut self,
-        call: Call,
-        pair: &Pair,
-        ours: Answer,
-        theirs: Answer,
-        memory: Vec<(&'static str, Option<isize>)>,
-    ) {
+    fn session_compared(&mut self, call: Call, pair: &Pair, ours: Answer, theirs: Answer, memory: Memory) {
         let data = || pair.joined.clone();
         self.report.compared(call, &words(ours), &words(theirs), memory, || pair.told(), data);
     }
