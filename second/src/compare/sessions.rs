@@ -22,15 +22,15 @@ pub fn round(comparer: &mut Comparer, file: &[u8], fields: &[Field]) {
     let mut pair = made_up_pair(comparer, None);
     byte_by_byte(comparer, &mut pair, file);
     in_pieces(comparer, &mut pair, file);
-    for _ in 0..times(file.len(), 20) {
+    for _ in 0..times(file.len(), 12) {
         let damaged = files::any(&mut comparer.random, file, fields);
-        match comparer.random.below(4) {
+        match comparer.random.below(6) {
             0 => byte_by_byte(comparer, &mut pair, &damaged),
             1 => asked_in_the_middle(comparer, &mut pair, &damaged),
             _ => in_pieces(comparer, &mut pair, &damaged),
         }
     }
-    if file.len() < SMALL && comparer.random.once_in(20) {
+    if file.len() < SMALL && comparer.random.once_in(40) {
         let damaged = files::any(&mut comparer.random, file, fields);
         for file in [file, &damaged] {
             every_cut(comparer, &mut pair, file);
@@ -43,7 +43,7 @@ pub fn round(comparer: &mut Comparer, file: &[u8], fields: &[Field]) {
             grown(comparer, &mut pair, file);
         }
     }
-    for _ in 0..times(file.len(), 6) {
+    for _ in 0..times(file.len(), 4) {
         made_up(comparer, file);
     }
 }
@@ -68,7 +68,7 @@ fn give(comparer: &mut Comparer, pair: &mut Pair, file: &[u8], cuts: &[usize]) {
 
 /// Large files seldom: each piece is a call.
 fn byte_by_byte(comparer: &mut Comparer, pair: &mut Pair, file: &[u8]) {
-    if file.len() > 4_000 && !comparer.random.once_in(10) {
+    if file.len() > 1_000 && !comparer.random.once_in(20) {
         return in_pieces(comparer, pair, file);
     }
     open(comparer, pair, "byte by byte");
