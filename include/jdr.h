@@ -3,7 +3,7 @@
  * Every call takes every input, comes to an end and keeps nothing between calls. A run that is lent is a pointer and a length in
  * elements. A run of no elements may have any pointer, NULL too; any other pointer is good for that many elements and aligned for them.
  * Runs that are lent for writing overlap no other run of the same call, and no other thread uses them during it. Lent memory changes only
- * where the number is 0, and then only in what the call hands back.
+ * where the number is 0, and then only in what the call hands back; but a session changes with its calls, whatever their number, except 22.
  *
  * Link libjdr_c.a or libjdr_c.so, which tools/library makes.
  */
@@ -39,11 +39,15 @@ enum {
     JDR_OUTPUT_TOO_SHORT = 17,   /* the offset is the bytes needed; the counts are 0 */
     JDR_LIST_TOO_SHORT = 18,     /* the offset is the entries needed; the counts are 0 */
     JDR_NO_SHEET = 19,           /* the bytes are no sheet; offset and counts are 0 */
-    JDR_NOT_A_NUMBER = 20        /* of jdr_box: a coordinate is a NaN */
+    JDR_NOT_A_NUMBER = 20,       /* of jdr_box: a coordinate is a NaN */
+    JDR_NO_SESSION = 22          /* no session that jdr_session_open began; it is as it was, offset and counts are 0 */
 };
 
 /* A longer file is refused. */
 #define JDR_LONGEST_FILE 65535
+
+/* A deeper group is refused; the outer group has depth 1. */
+#define JDR_DEEPEST_GROUP 16
 
 /* The words of a row of the contents: kind, row of the parent (0 for row 0), start and length of the body in the bodies. */
 #define JDR_ROW_WORDS 4
@@ -110,6 +114,16 @@ struct jdr_box {
     double left, bottom, right, top;
 };
 
+/* A checking session: what is known so far of a plan that comes in pieces. The caller owns it, and it may hold anything before
+ * jdr_session_open. Its fields are the library's own; two of them mean something to callers: `depth` is how many groups are open, and `bytes`
+ * how many bytes were given, counted up to JDR_LONGEST_FILE + 1. It may be copied: the copy then goes on by itself. */
+struct jdr_session {
+    uint32_t spent, depth, bytes, number, offset, rows, words, version, stage, width, segments, held;
+    uint64_t parts, run, x, y;
+    uint32_t members[16];
+    uint8_t buffer[184];
+};
+
 /* Reads a file into a table: contents, a row an object in the order in which objects open, and bodies, which begin with the minor version
  * number and the settings. In a flag any byte but 0 is true, and its word is 1. 0 to 15, never 5. Room for rows is whole rows. A call with
  * no room gives the counts needed (14), or the refusal. */
@@ -139,6 +153,22 @@ struct jdr_answer jdr_sheet_read(const uint8_t *sheet, size_t sheet_len, uint32_
  * how many they are as rows, offset and words 0, and the row numbers in the order in which the objects open; 16; or 18. */
 struct jdr_answer jdr_list(const uint32_t *contents, size_t contents_len, const uint32_t *bodies, size_t bodies_len, const uint16_t *label,
                            size_t label_len, uint32_t *entries, size_t entries_len);
+
+/* The next three calls check a plan piece by piece, as it arrives, without storing it: open a session, give it the pieces in order, ask for
+ * the verdict. Each takes a pointer to the session, which is never NULL, and lies apart from the bytes that are given. */
+
+/* Begins a session anew, whatever it holds. Always 0, with offset and counts 0. */
+struct jdr_answer jdr_session_open(struct jdr_session *session);
+
+/* Gives an opened session the next bytes of the file, however many, none too; they are not needed afterwards. 0 with offset and counts 0,
+ * even where the file is at fault: only the verdict tells. After a verdict a piece changes nothing. 22, with the session unchanged, exactly
+ * where its depth is over JDR_DEEPEST_GROUP or its bytes are over JDR_LONGEST_FILE + 1; an opened session never comes to that. */
+struct jdr_answer jdr_session_piece(struct jdr_session *session, const uint8_t *bytes, size_t bytes_len);
+
+/* The verdict on the bytes so far: what jdr_read answers for all of them as one file, with room enough. 0 with the file's length and the
+ * counts of its table; or 1 to 13, never 5. A file that grows too long is 1, whatever else is wrong with it. A verdict spends the session:
+ * until it is opened anew the verdict is repeated. To ask before the end and go on, ask a copy. 22 as for a piece. */
+struct jdr_answer jdr_session_verdict(struct jdr_session *session);
 
 /* The numbers of the three questions about a row are others: */
 enum {

@@ -4,6 +4,7 @@ pub mod boxes;
 mod broken;
 pub mod lists;
 pub mod reads;
+pub mod sessions;
 pub mod sheets;
 pub mod tables;
 
@@ -17,13 +18,14 @@ use std::path::Path;
 type Make = fn(u64) -> Vec<Case>;
 
 /// Each call by the name that its cases have, in the order in which they are run.
-pub const CALLS: [(&str, Make); 6] = [
+pub const CALLS: [(&str, Make); 7] = [
     ("read", reads::cases),
     ("table", tables::cases),
     ("list", lists::cases),
     ("box", boxes::cases),
     ("sheet_write", sheets::write_cases),
     ("sheet_read", sheets::read_cases),
+    ("session", sessions::cases),
 ];
 
 /// What lent memory holds before a call.
