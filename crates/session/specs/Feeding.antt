@@ -226,12 +226,12 @@ module _ {s : Session} {src : List ℕ} {base : ℕ} {r : Fed} (advances : Advan
       subst (λ u. Able u (length (drop (r .at) src) + length later)) (sym (advances .session-is))
       (subst (λ n. Able after (length (drop n src) + length later)) (sym (advances .at-is))
       (let long = length-drop (advances .ran .at) src in
-       let there = advances .runs .came .there in
-       let more-words = advances .runs .came .few-words .1 in
-       let more-rows = advances .runs .came .few-rows in
-       let words = able .few-words in
-       let rows = able .few-rows in
-       record { sound = advances .runs .came .sound; short = able .short; few-words = omega arith; few-rows = omega arith }))
+      let there = advances .runs .came .there in
+      let more-words = advances .runs .came .few-words .1 in
+      let more-rows = advances .runs .came .few-rows in
+      let words = able .few-words in
+      let rows = able .few-rows in
+      record { sound = advances .runs .came .sound; short = able .short; few-words = omega arith; few-rows = omega arith }))
 
   -- ---- a fault
 
@@ -362,9 +362,9 @@ module _ {s : Session} {src : List ℕ} {base : ℕ} {r : Fed} (advances : Advan
           let counted = behind .counted in
           let sum : advances .ran .to + 0 ≡ advances .ran .to = omega arith in (
             ap (λ n. cond (eqb n 0) (answer 0 (after .bytes) (after .rows) (after .words - after .rows - 4)) (answer n (after .offset) 0 0)) number-zero
-            ∙ ap (λ n. answer 0 n (after .rows) (after .words - after .rows - 4)) counted
-            ∙ ap (λ n. answer 0 (length bs) (after .rows) (n - after .rows - 4)) (sym sum)
-            ∙ sym (verdict-tallied bs (behind .units) (omega arith) ∙ ap (comes (length bs)) came),
+                ∙ ap (λ n. answer 0 n (after .rows) (after .words - after .rows - 4)) counted
+                ∙ ap (λ n. answer 0 (length bs) (after .rows) (n - after .rows - 4)) (sym sum)
+                ∙ sym (verdict-tallied bs (behind .units) (omega arith) ∙ ap (comes (length bs)) came),
             omega arith,
           )
         where

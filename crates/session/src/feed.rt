@@ -143,7 +143,11 @@ fn turned(s: Session, bytes: &[u8]) -> Turn
         }
         let none = [0u8; 184];
         return Turn {
-            session: with_held(after, appended(none, 0, &buffer[..all], came, all - came), all - came),
+            session: with_held(
+                after,
+                appended(none, 0, &buffer[..all], came, all - came),
+                all - came,
+            ),
             from: all - held,
             over: false,
         };

@@ -33,13 +33,13 @@ part-turned-end c = let there = c .before .before .loop .inv .there in omega ari
 
 -- src/feed.rt:166:13
 turned-requires : tie.Need-turned-requires Inv-loop μ-loop
-turned-requires c κs = 
+turned-requires c κs =
     let at-loop = c .before .before .before in
     (able-turn (at-loop .loop .inv), omega arith, at-loop .loop .inv .few-held)
 
 -- src/feed.rt:168:13
 returns : tie.Need-returns Inv-loop μ-loop
-returns c = 
+returns c =
     let at-if2 = c .before in
     let at-turned = at-if2 .before in
     let at-loop = at-turned .before .before .before .before in
@@ -47,7 +47,7 @@ returns c =
 
 -- src/feed.rt:170:16
 add-from : tie.Need-add-from Inv-loop μ-loop
-add-from c = 
+add-from c =
     let at-if2 = c .before in
     let at-turned = at-if2 .before in
     let at-loop = at-turned .before .before .before .before in
@@ -55,7 +55,7 @@ add-from c =
 
 -- src/feed.rt:165:5
 loop-less : tie.Need-loop-less Inv-loop μ-loop
-loop-less c = 
+loop-less c =
     let at-if2 = c .before .before in
     let at-turned = at-if2 .before in
     let at-loop = at-turned .before .before .before .before in
@@ -63,7 +63,7 @@ loop-less c =
 
 -- src/feed.rt:165:5
 loop-again : tie.Need-loop-again Inv-loop μ-loop
-loop-again c = 
+loop-again c =
     let at-if2 = c .before .before in
     let at-turned = at-if2 .before in
     let at-loop = at-turned .before .before .before .before in

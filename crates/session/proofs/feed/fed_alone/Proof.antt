@@ -43,7 +43,7 @@ with-held-requires c κs = search needs
 
 -- src/feed.rt:69:13
 returns : tie.Need-returns
-returns c = 
+returns c =
     let at-appended = c .before in
     let at-advance = at-appended .before .before .before .before .before in
     let at-pre = at-advance .before .before .before in
@@ -55,7 +55,7 @@ stopped-requires c κs = search needs
 
 -- src/feed.rt:71:9
 returns-2 : tie.Need-returns-2
-returns-2 c = 
+returns-2 c =
     let at-if2 = c .before in
     let at-goes-on = at-if2 .before in
     let at-advance = at-goes-on .before .before .before in
@@ -68,7 +68,7 @@ stopped-requires-2 c κs = search needs
 
 -- src/feed.rt:58:1
 returns-3 : tie.Need-returns-3
-returns-3 c = 
+returns-3 c =
     let at-advance = c .before .before .before in
     let at-pre = at-advance .before .before .before in
     alone-stopped (at-pre .pre) (at-advance .advance .ensures) (inr (omega arith)) (c .stopped2 .ensures)

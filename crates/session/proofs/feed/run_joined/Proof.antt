@@ -45,7 +45,7 @@ array-share-prefix-joined c = search needs
 
 -- src/feed.rt:93:27
 slice-aggregate-advance : tie.Need-slice-aggregate-advance
-slice-aggregate-advance c = 
+slice-aggregate-advance c =
     let at-appended = c .before in
     let at-least = at-appended .before .before .before in
     let at-args = at-least .before .before .before in
@@ -65,7 +65,7 @@ sub-advance-2 c = search needs
 
 -- src/feed.rt:93:9
 advance-requires : tie.Need-advance-requires
-advance-requires c κs = 
+advance-requires c κs =
     let at-appended = c .before .before in
     let at-least = at-appended .before .before .before in
     let at-args = at-least .before .before .before in
@@ -73,7 +73,7 @@ advance-requires c κs =
 
 -- src/feed.rt:84:1
 returns : tie.Need-returns
-returns c = 
+returns c =
     let at-advance = c .before in
     let at-appended = at-advance .before .before .before in
     let at-kept = at-appended .before in

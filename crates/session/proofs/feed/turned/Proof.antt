@@ -28,7 +28,7 @@ with-held-requires c κs = search needs
 
 -- src/feed.rt:124:17
 returns : tie.Need-returns
-returns c = 
+returns c =
     let at-if2 = c .before .before in
     let at-run-joined = at-if2 .before .before .before .before .before in
     let at-pre = at-run-joined .before .before in
@@ -40,7 +40,7 @@ stopped-requires c κs = search needs
 
 -- src/feed.rt:130:13
 returns-2 : tie.Need-returns-2
-returns-2 c = 
+returns-2 c =
     let at-if2 = c .before .before in
     let at-run-joined = at-if2 .before .before .before .before .before in
     let at-pre = at-run-joined .before .before in
@@ -56,7 +56,7 @@ with-held-requires-2 c κs = search needs
 
 -- src/feed.rt:138:13
 returns-3 : tie.Need-returns-3
-returns-3 c = 
+returns-3 c =
     let at-run-joined = c .before .before .before .before .before .before .before .before in
     let at-pre = at-run-joined .before .before in
     turns-behind (at-run-joined .run-joined .ensures) (at-pre .pre .0) (at-pre .pre .1) (at-pre .pre .2) (omega arith) (c .with-held2 .ensures)
@@ -67,7 +67,7 @@ array-share-prefix-buffer c = search needs
 
 -- src/feed.rt:146:57
 slice-aggregate-appended : tie.Need-slice-aggregate-appended
-slice-aggregate-appended c = 
+slice-aggregate-appended c =
     let at-run-joined = c .before .before .before .before .before .before .before .before in
     let at-pre = at-run-joined .before .before in
     let full = at-run-joined .run-joined .ensures .full in let most = fits (at-run-joined .run-joined .ensures) (at-pre .pre .0) (at-pre .pre .1) (at-pre .pre .2) in sym (length-take-le (at-run-joined .run-joined .result .all) (at-run-joined .run-joined .result .buffer) (omega arith))
@@ -78,7 +78,7 @@ sub-appended c = search needs
 
 -- src/feed.rt:146:39
 appended-requires : tie.Need-appended-requires
-appended-requires c κs = 
+appended-requires c κs =
     let at-run-joined = c .before .before .before .before .before .before .before .before in
     let at-pre = at-run-joined .before .before in
     let full = at-run-joined .run-joined .ensures .full in let most = fits (at-run-joined .run-joined .ensures) (at-pre .pre .0) (at-pre .pre .1) (at-pre .pre .2) in let came = came-within (at-run-joined .run-joined .ensures) (at-pre .pre .0) (at-pre .pre .1) (at-pre .pre .2) in let long = length-take (at-run-joined .run-joined .result .all) (at-run-joined .run-joined .result .buffer) in (refl, omega arith, omega arith)
@@ -97,7 +97,7 @@ sub-t25 c = search needs
 
 -- src/feed.rt:145:9
 returns-4 : tie.Need-returns-4
-returns-4 c = 
+returns-4 c =
     let at-appended = c .before in
     let at-if2 = at-appended .before .before .before .before in
     let at-run-joined = at-if2 .before .before .before .before .before in
@@ -110,7 +110,7 @@ stopped-requires-2 c κs = search needs
 
 -- src/feed.rt:112:1
 returns-5 : tie.Need-returns-5
-returns-5 c = 
+returns-5 c =
     let at-if1 = c .before in
     let at-goes-on = at-if1 .before in
     let at-run-joined = at-goes-on .before .before .before in

@@ -47,14 +47,14 @@ loop-less c = omega arith
 
 -- src/hold.rt:29:5
 loop-again : tie.Need-loop-again Inv-loop μ-loop
-loop-again c = 
+loop-again c =
     let at-loop = c .before .before in
     let at-args = at-loop .before in
     let i = at-loop .loop .i in let ms = at-loop .loop .bytes in let sized = at-loop .loop .inv .1 in let new = getD (at-args .args .src .now) (at-args .args .from + i) 0 in let both = firstOf (at-args .args .at) (at-args .args .old) ++ take (at-args .args .count) (drop (at-args .args .from) (at-args .args .src .now)) in let is : getD both (at-args .args .at + i) 0 ≡ new = both-behind (firstOf (at-args .args .at) (at-args .args .old)) (at-args .args .src .now) (at-args .args .at) (at-args .args .from) (at-args .args .count) i (length-first (at-args .args .at) (at-args .args .old)) (omega arith) in (omega arith, length-set ms (at-args .args .at + i) new ∙ sized, λ k less. ap (λ x. getD (set ms (at-args .args .at + i) x) k 0) (sym is) ∙ filled-on (λ k. getD both k 0) ms (at-args .args .at + i) (omega arith) (at-loop .loop .inv .2) k (omega arith))
 
 -- src/hold.rt:23:1
 returns : tie.Need-returns Inv-loop μ-loop
-returns c = 
+returns c =
     let at-loop = c .before in
     let at-args = at-loop .before in
     (at-loop .loop .inv .1, first-is (at-args .args .at + at-args .args .count) (at-loop .loop .bytes) (firstOf (at-args .args .at) (at-args .args .old) ++ take (at-args .args .count) (drop (at-args .args .from) (at-args .args .src .now))) (both-long (at-args .args .at) (at-args .args .old) (at-args .args .src .now) (at-args .args .from) (at-args .args .count) (at-args .pre .2)) (λ k less. at-loop .loop .inv .2 k (omega arith)))

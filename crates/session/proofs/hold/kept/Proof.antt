@@ -37,14 +37,14 @@ loop-less c = omega arith
 
 -- src/hold.rt:15:5
 loop-again : tie.Need-loop-again Inv-loop μ-loop
-loop-again c = 
+loop-again c =
     let at-loop = c .before in
     let at-args = at-loop .before in
     let i = at-loop .loop .i in let ms = at-loop .loop .bytes in let sized = at-loop .loop .inv .1 in (omega arith, length-set ms i (getD (at-args .args .t1) i 0) ∙ sized, filled-on (λ k. getD (at-args .args .t1) k 0) ms i (omega arith) (at-loop .loop .inv .2))
 
 -- src/hold.rt:9:1
 returns : tie.Need-returns Inv-loop μ-loop
-returns c = 
+returns c =
     let at-loop = c .before in
     let at-args = at-loop .before in
     (at-loop .loop .inv .1, first-is (at-args .args .count) (at-loop .loop .bytes) (firstOf (at-args .args .count) (at-args .args .t1)) (length-first (at-args .args .count) (at-args .args .t1)) (λ k less. at-loop .loop .inv .2 k (omega arith) ∙ sym (first-at (at-args .args .count) (at-args .args .t1) k less)))

@@ -16,7 +16,7 @@ cast-if1 c = search needs
 
 -- src/piece.rt:67:9
 returns : tie.Need-returns
-returns c = 
+returns c =
     let at-args = c .before .before .before in
     gives-same (at-args .args .s) (at-args .args .bytes .now) (omega arith)
 
@@ -38,7 +38,7 @@ with-bytes-requires c κs = search needs
 
 -- src/piece.rt:70:9
 returns-2 : tie.Need-returns-2
-returns-2 c = 
+returns-2 c =
     let at-args = c .before .before .before .before .before .before in
     subst (Gives (at-args .args .s) (at-args .args .bytes .now)) (sym (c .with-bytes .ensures)) (gives-long (at-args .args .s) (at-args .args .bytes .now) (omega arith) (omega arith))
 
@@ -60,7 +60,7 @@ with-bytes-requires-2 c κs = search needs
 
 -- src/piece.rt:74:9
 fed-requires : tie.Need-fed-requires
-fed-requires c κs = 
+fed-requires c κs =
     let at-if3 = c .before in
     let at-is-runnable = at-if3 .before in
     let at-args = at-is-runnable .before .before .before .before .before .before .before in
@@ -68,7 +68,7 @@ fed-requires c κs =
 
 -- src/piece.rt:74:9
 returns-3 : tie.Need-returns-3
-returns-3 c = 
+returns-3 c =
     let at-with-bytes2 = c .before in
     let at-if3 = at-with-bytes2 .before in
     let at-is-runnable = at-if3 .before in
@@ -81,7 +81,7 @@ with-bytes-requires-3 c κs = search needs
 
 -- src/piece.rt:62:1
 returns-4 : tie.Need-returns-4
-returns-4 c = 
+returns-4 c =
     let at-if3 = c .before in
     let at-is-runnable = at-if3 .before in
     let at-args = at-is-runnable .before .before .before .before .before .before .before in

@@ -34,7 +34,7 @@ returns-5 c = tells-no (λ h. omega arith)
 
 -- src/piece.rt:31:1
 returns-6 : tie.Need-returns-6
-returns-6 c = 
+returns-6 c =
     let at-if2 = c .before .before .before .before .before .before .before .before .before in
     let at-may-open = at-if2 .before in
     let at-args = at-may-open .before .before .before in

@@ -30,7 +30,7 @@ answered-requires-2 c κs = search needs
 
 -- src/piece.rt:89:9
 returns-2 : tie.Need-returns-2
-returns-2 c = 
+returns-2 c =
     let at-if2 = c .before in
     let at-if1 = at-if2 .before .before in
     let at-is-unfit = at-if1 .before in
@@ -38,7 +38,7 @@ returns-2 c =
 
 -- src/piece.rt:95:18
 given-requires : tie.Need-given-requires
-given-requires c κs = 
+given-requires c κs =
     let at-if1 = c .before .before in
     let at-is-unfit = at-if1 .before in
     let at-args = at-is-unfit .before .before in
@@ -50,7 +50,7 @@ answered-requires-3 c κs = search needs
 
 -- src/piece.rt:79:1
 returns-3 : tie.Need-returns-3
-returns-3 c = 
+returns-3 c =
     let at-given = c .before in
     let at-if1 = at-given .before .before .before in
     let at-is-unfit = at-if1 .before in

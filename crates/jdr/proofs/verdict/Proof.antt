@@ -1,6 +1,6 @@
--- `lent::open` meets its contract: a walk of its MIR, by hand. The borrow is opened, the struct is copied out of its cell and passed to `opened` by value, the struct that comes back is stored over the cell, and the borrow is closed at it.
--- All that the proof knows of `opened` is that it meets its contract. Nothing here depends on the struct's fields.
--- Assumes nothing.
+-- Made by tools/ways from crates/jdr/proofs/open/Proof.antt.
+-- `jdr::verdict` meets its contract: a walk of its MIR, by hand. The borrow is opened, the struct is copied out of its cell and passed to `judged` by value, the struct that comes back is stored over the cell, and the borrow is closed at it.
+-- All that the proof knows of `judged` is that it meets its contract. Nothing here depends on the struct's fields.
 use mathlib.Core.Path.{_≡_, refl, ap}
 use Prim.Native.Nat.{ℕ}
 use mathlib.Core.List.{[], _∷_, List}
@@ -41,7 +41,7 @@ use denote.Triple.Clauses.{ensured, lasts}
 use denote.Triple.Table.{entered, cited}
 use denote.Triple.Walked.{says, Stays, stay-ref, stay-none-slice, walkOf, goes-ref, goes-none-slice, Walks, ends-at, walked, walk-meets}
 use denote.Exit.{yes}
-use Rattle.pieces.specs.SessionPromises.{Opens}
+use Rattle.pieces.specs.SessionPromises.{Verdicts}
 use Rattle.pieces.specs.declared.Session.{Session}
 use Rattle.drawing.specs.declared.Answer.{Answer}
 use Rattle.session.specs.declared.verdict.Taken.{Taken}
@@ -51,14 +51,14 @@ use Rattle.drawing.proofs.Answer as R
 use Rattle.drawing.proofs.Answer.Laws as R′
 use Rattle.session.proofs.verdict.Taken as K
 use Rattle.session.proofs.verdict.Taken.Laws as K′
-use Rattle.session.proofs.verdict.opened as callee
-use Rattle.session.proofs.verdict.opened.Symbol as callee-def
-use Rattle.session.proofs.verdict.opened.Symbol.{name as #called}
-use Rattle.session.proofs.verdict.opened.Met as callee-thm
-use Rattle.lent.proofs.open.Key.{name as #open}
-use Rattle.lent.proofs.open as f
-use Rattle.lent.proofs.open.Statement as stated
-use Rattle.lent.proofs.open.Code as code
+use Rattle.session.proofs.verdict.judged as callee
+use Rattle.session.proofs.verdict.judged.Symbol as callee-def
+use Rattle.session.proofs.verdict.judged.Symbol.{name as #called}
+use Rattle.session.proofs.verdict.judged.Met as callee-thm
+use Rattle.jdr.proofs.verdict.Key.{name as #this}
+use Rattle.jdr.proofs.verdict as f
+use Rattle.jdr.proofs.verdict.Statement as stated
+use Rattle.jdr.proofs.verdict.Code as code
 
 abbrev stayed : Stays (f.ended .signature .params) (f.ended .kept)
 stayed = (stay-ref (0 ∷ []) tt (plain (λ _. S.the-row)), tt)
@@ -90,7 +90,7 @@ module _ {M : Type 1} (𝓤 : URA M) (H : Heap 𝓤) (A : Atoms 𝓤) (W : Given
       nothing ! $ move ! (1 ∷ 0 ∷ []) $ fjoin ! $ nothing ! $ join ! $ frame ! $ done !
 
   abbrev Said : Taken → Type 0
-  Said t = Opens (t .session) (t .answer)
+  Said t = Verdicts h (t .session) (t .answer)
 
   said : (t : Taken) → ent 𝓤 (ensured 𝓤 H A callee.ended (callee.clauses 𝓤 H A at-mem run) tt (h, tt) tt t) (fact 𝓤 (Said t))
   said t = exE 𝓤 _ (λ ws. snd∗ 𝓤 (sem 𝓤 H A (lasts callee.ended tt (h, tt) ws)) (fact 𝓤 (Said t)))
@@ -138,20 +138,20 @@ module _ {M : Type 1} (𝓤 : URA M) (H : Heap 𝓤) (A : Atoms 𝓤) (W : Given
         keep ! (0 ∷ 1 ∷ 2 ∷ []) $ by ! (exits t e (LL.owed K.the-type K′.the-laws t _ is .1 .0))))))))))))
 
 module _ {M : Type 1} (𝓤 : URA M) (H : Heap 𝓤) (A : Atoms 𝓤) (W : Given 𝓤 H A) (mem : Memory → SProp 𝓤) (run : Routine → Fun 𝓤) where
-  open-walks : (C : Calls 𝓤 H) (Λ : Loops 𝓤 H) → FmC 𝓤 H (W .laws) C → Triple 𝓤 (C #called) (Callee 𝓤 H A mem run) → Walks 𝓤 H A f.ended stayed (WpFn 𝓤 H C Λ code.function) (f.clauses 𝓤 H A mem run)
-  open-walks C Λ fm known = walked 𝓤 H A f.ended stayed (f.clauses 𝓤 H A mem run) (WpFn 𝓤 H C Λ code.function) (λ κs. (ptr-vals, tt)) (λ κs. (mut-tells (named 0) (κs .0) S.the-row, tt))
+  this-walks : (C : Calls 𝓤 H) (Λ : Loops 𝓤 H) → FmC 𝓤 H (W .laws) C → Triple 𝓤 (C #called) (Callee 𝓤 H A mem run) → Walks 𝓤 H A f.ended stayed (WpFn 𝓤 H C Λ code.function) (f.clauses 𝓤 H A mem run)
+  this-walks C Λ fm known = walked 𝓤 H A f.ended stayed (f.clauses 𝓤 H A mem run) (WpFn 𝓤 H C Λ code.function) (λ κs. (ptr-vals, tt)) (λ κs. (mut-tells (named 0) (κs .0) S.the-row, tt))
       (λ κs qs bounds a g are. via 𝓤 _ (fst∗ 𝓤 _ (emp 𝓤)) (walk 𝓤 H A W mem run (κs .0) bounds (qs .0) (a .0 .ptr .0) (a .0 .ptr .1) (a .0 .name) (a .0 .now) C Λ fm known))
 
-open-meets : {M : Type 1} (𝓤 : URA M) (H : Heap 𝓤) (A : Atoms 𝓤) → Given 𝓤 H A → (mem : Memory → SProp 𝓤) (run : Routine → Fun 𝓤) (𝓣 : Tables 𝓤 H) → Triple 𝓤 (𝓣 .C #called) (Callee 𝓤 H A mem run)
+this-meets : {M : Type 1} (𝓤 : URA M) (H : Heap 𝓤) (A : Atoms 𝓤) → Given 𝓤 H A → (mem : Memory → SProp 𝓤) (run : Routine → Fun 𝓤) (𝓣 : Tables 𝓤 H) → Triple 𝓤 (𝓣 .C #called) (Callee 𝓤 H A mem run)
     → Meets 𝓤 H A f.signature (WpFn 𝓤 H (𝓣 .C) (𝓣 .Λ) code.function) (f.spec 𝓤 H A mem run)
-open-meets 𝓤 H A W mem run 𝓣 known =
+this-meets 𝓤 H A W mem run 𝓣 known =
     walk-meets 𝓤 H A f.ended stayed W (goes-ref 𝓤 H A W 1 0 tt (plain (λ _. S.the-row)), tt) (f.clauses 𝓤 H A mem run)
-    (WpFn 𝓤 H (𝓣 .C) (𝓣 .Λ) code.function) (WpFn-mono 𝓤 H (W .laws) 𝓣 code.function) (open-walks 𝓤 H A W mem run (𝓣 .C) (𝓣 .Λ) (fmOf 𝓤 H (W .laws) 𝓣) known)
+    (WpFn 𝓤 H (𝓣 .C) (𝓣 .Λ) code.function) (WpFn-mono 𝓤 H (W .laws) 𝓣 code.function) (this-walks 𝓤 H A W mem run (𝓣 .C) (𝓣 .Λ) (fmOf 𝓤 H (W .laws) 𝓣) known)
 
-pub open-spec : {M : Type 1} → stated.statement M
+pub verdict-spec : {M : Type 1} → stated.statement M
 unfolding code.routine tablesOf
-open-spec 𝓤 H 𝓜 𝓖 𝓡 =
+verdict-spec 𝓤 H 𝓜 𝓖 𝓡 =
     entered 𝓤 H (tripleOf 𝓤 H (𝓖 .A) f.signature (f.spec 𝓤 H (𝓖 .A) (𝓜 .mem) (𝓡 .run)))
-    (tables 𝓤 H 𝓜 𝓡 code.env .C) (tables 𝓤 H 𝓜 𝓡 code.env .Λ) #open code.function (code.unfolded 𝓤 H 𝓜 𝓡)
-    (open-meets 𝓤 H (𝓖 .A) (givenOf 𝓤 H 𝓜 𝓖) (𝓜 .mem) (𝓡 .run) (tablesOf 𝓤 H 𝓜 (tables 𝓤 H 𝓜 𝓡 code.env))
-    (cited 𝓤 H (Callee 𝓤 H (𝓖 .A) (𝓜 .mem) (𝓡 .run)) 𝓜 𝓡 code.env #called callee-def.routine code.calls-session·verdict·opened (callee-thm.met 𝓤 H 𝓜 𝓖 𝓡)))
+    (tables 𝓤 H 𝓜 𝓡 code.env .C) (tables 𝓤 H 𝓜 𝓡 code.env .Λ) #this code.function (code.unfolded 𝓤 H 𝓜 𝓡)
+    (this-meets 𝓤 H (𝓖 .A) (givenOf 𝓤 H 𝓜 𝓖) (𝓜 .mem) (𝓡 .run) (tablesOf 𝓤 H 𝓜 (tables 𝓤 H 𝓜 𝓡 code.env))
+    (cited 𝓤 H (Callee 𝓤 H (𝓖 .A) (𝓜 .mem) (𝓡 .run)) 𝓜 𝓡 code.env #called callee-def.routine code.calls-session·verdict·judged (callee-thm.met 𝓤 H 𝓜 𝓖 𝓡)))

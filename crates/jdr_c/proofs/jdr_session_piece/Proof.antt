@@ -1,6 +1,6 @@
--- `lent::piece` meets its contract: a walk of its MIR, by hand. The borrow is opened, the struct is copied out of its cell and passed to `step` by value, the struct that comes back is stored over the cell, and the borrow is closed at it.
--- All that the proof knows of `step` is that it meets its contract. Nothing here depends on the struct's fields.
--- Assumes nothing.
+-- Made by tools/ways from crates/jdr/proofs/piece/Proof.antt.
+-- `jdr_c::jdr_session_piece` meets its contract: a walk of its MIR, by hand. The borrow is opened, the struct is copied out of its cell and passed to `pieced` by value, the struct that comes back is stored over the cell, and the borrow is closed at it.
+-- All that the proof knows of `pieced` is that it meets its contract. Nothing here depends on the struct's fields.
 use mathlib.Core.Path.{_≡_, refl, ap}
 use Prim.Native.Nat.{ℕ}
 use mathlib.Core.List.{[], _∷_, List}
@@ -55,10 +55,10 @@ use Rattle.session.proofs.piece.pieced as callee
 use Rattle.session.proofs.piece.pieced.Symbol as callee-def
 use Rattle.session.proofs.piece.pieced.Symbol.{name as #called}
 use Rattle.session.proofs.piece.pieced.Met as callee-thm
-use Rattle.lent.proofs.piece.Key.{name as #lent·piece}
-use Rattle.lent.proofs.piece as f
-use Rattle.lent.proofs.piece.Statement as stated
-use Rattle.lent.proofs.piece.Code as code
+use Rattle.jdr_c.proofs.jdr_session_piece.Key.{name as #this}
+use Rattle.jdr_c.proofs.jdr_session_piece as f
+use Rattle.jdr_c.proofs.jdr_session_piece.Statement as stated
+use Rattle.jdr_c.proofs.jdr_session_piece.Code as code
 
 abbrev stayed : Stays (f.ended .signature .params) (f.ended .kept)
 stayed = (stay-ref (0 ∷ []) tt (plain (λ _. S.the-row)), (stay-none-slice (1 ∷ []) tt (plain (λ _. u8)) yes, tt))
@@ -86,12 +86,12 @@ module _ {M : Type 1} (𝓤 : URA M) (H : Heap 𝓤) (A : Atoms 𝓤) (W : Given
   abbrev Post : Val → SProp 𝓤
   Post = walkOf 𝓤 H A f.ended stayed (f.clauses 𝓤 H A at-mem run) .post (((κ, (κ′, tt)), (q, (q′, tt)), bounds, x, at), tt)
 
-  -- the call of `step`: what it is passed, what it asks, and what is known of its result
-  abbrev to-step : Callee 𝓤 H A at-mem run .Ghost
-  to-step = (((κ′, tt), (q′, tt), tt, (h, (y, tt)), (vals h, (v ∷ [], tt))), tt)
+  -- the call by value: what it is passed, what it asks, and what is known of its result
+  abbrev to-call : Callee 𝓤 H A at-mem run .Ghost
+  to-call = (((κ′, tt), (q′, tt), tt, (h, (y, tt)), (vals h, (v ∷ [], tt))), tt)
 
-  goes-step : ent 𝓤 (⋆ 𝓤 H A (‵ (S.the-row .own h (vals h)) ∷ ‵ Own ∷ (‵ (flft κ′ q′) ⊛ ‵ ftrue) ∷ [])) (Callee 𝓤 H A at-mem run .pre to-step)
-  goes-step =
+  goes-call : ent 𝓤 (⋆ 𝓤 H A (‵ (S.the-row .own h (vals h)) ∷ ‵ Own ∷ (‵ (flft κ′ q′) ⊛ ‵ ftrue) ∷ [])) (Callee 𝓤 H A at-mem run .pre to-call)
+  goes-call =
       qed W (‵ (S.the-row .own h (vals h)) ∷ ‵ Own ∷ (‵ (flft κ′ q′) ⊛ ‵ ftrue) ∷ []) ∵
       nothing ! $ move ! (2 ∷ 0 ∷ []) $ fjoin ! $ move ! (1 ∷ 0 ∷ []) $ fjoin ! $ move ! (1 ∷ 0 ∷ []) $ join ! $ frame ! $ done !
 
@@ -125,8 +125,8 @@ module _ {M : Type 1} (𝓤 : URA M) (H : Heap 𝓤) (A : Atoms 𝓤) (W : Given
         -- [the struct's cell; what it owns; the open borrow; obs; auth; the slice's token; what bytes owns; room for _4; …; room for _3; …; _2; …; _1; …; room for _0; …]
         assigns ! (of-opd ! (load ! (from ! (hop ! (look ! 13 refl) (stop !))) (look-raw ! 0 refl))) (from ! (stop !)) (init ! 7 refl (LL.lawful S.the-type S′.the-laws 𝓤 H A W .typed h _ was .0)) $
         move ! (6 ∷ []) $ fsplit ! $ use1 W (‵ Own ⊛ ‵ Own) (shr-slice-copy 𝓤 H A W (named 1) κ′ u8 .twice y (v ∷ [])) $ split ! $
-        move ! (4 ∷ 0 ∷ 8 ∷ []) $ use3 W (raw (Callee 𝓤 H A at-mem run .pre to-step)) goes-step $
-        calls-at ! fm (Callee 𝓤 H A at-mem run) known to-step (and-then ! (load ! (from ! (stop !)) (look ! 7 refl)) (and-then ! (load ! (from ! (stop !)) (look ! 11 refl)) (no-more !))) (λ w.
+        move ! (4 ∷ 0 ∷ 8 ∷ []) $ use3 W (raw (Callee 𝓤 H A at-mem run .pre to-call)) goes-call $
+        calls-at ! fm (Callee 𝓤 H A at-mem run) known to-call (and-then ! (load ! (from ! (stop !)) (look ! 7 refl)) (and-then ! (load ! (from ! (stop !)) (look ! 11 refl)) (no-more !))) (λ w.
         use1 W (later (some (λ (t : Taken). ((‵ (flft κ′ q′) ⊛ ‵ ftrue) ⊛ ‵ (K.the-row .own t (w ∷ []))) ⊛ raw (ensured 𝓤 H A callee.ended (callee.clauses 𝓤 H A at-mem run) (κ′, tt) (h, (y, tt)) tt t)))) (id⊢ 𝓤 _) $ await ! tt $ pick ! (λ t.
         split ! $ move ! (1 ∷ []) $ use1 W (raw (fact 𝓤 (Said t))) (said t) $ heard ! (Said t) (λ e. split ! $ move ! (1 ∷ []) $
         -- [what the result owns; the slice's token; what bytes owns; true; the struct's cell; the open borrow; obs; auth; _4; …; room for _3; …; _2; …; _1; …; room for _0; …]
@@ -145,20 +145,20 @@ module _ {M : Type 1} (𝓤 : URA M) (H : Heap 𝓤) (A : Atoms 𝓤) (W : Given
         keep ! (0 ∷ 1 ∷ 2 ∷ 3 ∷ 4 ∷ []) $ by ! (exits t e (LL.owed K.the-type K′.the-laws t _ is .1 .0)))))))))))))
 
 module _ {M : Type 1} (𝓤 : URA M) (H : Heap 𝓤) (A : Atoms 𝓤) (W : Given 𝓤 H A) (mem : Memory → SProp 𝓤) (run : Routine → Fun 𝓤) where
-  piece-walks : (C : Calls 𝓤 H) (Λ : Loops 𝓤 H) → FmC 𝓤 H (W .laws) C → Triple 𝓤 (C #called) (Callee 𝓤 H A mem run) → Walks 𝓤 H A f.ended stayed (WpFn 𝓤 H C Λ code.function) (f.clauses 𝓤 H A mem run)
-  piece-walks C Λ fm known = walked 𝓤 H A f.ended stayed (f.clauses 𝓤 H A mem run) (WpFn 𝓤 H C Λ code.function) (λ κs. (ptr-vals, (slice-vals, tt))) (λ κs. (mut-tells (named 0) (κs .0) S.the-row, (shr-slice-tells (named 1) (κs .1 .0) u8, tt)))
+  this-walks : (C : Calls 𝓤 H) (Λ : Loops 𝓤 H) → FmC 𝓤 H (W .laws) C → Triple 𝓤 (C #called) (Callee 𝓤 H A mem run) → Walks 𝓤 H A f.ended stayed (WpFn 𝓤 H C Λ code.function) (f.clauses 𝓤 H A mem run)
+  this-walks C Λ fm known = walked 𝓤 H A f.ended stayed (f.clauses 𝓤 H A mem run) (WpFn 𝓤 H C Λ code.function) (λ κs. (ptr-vals, (slice-vals, tt))) (λ κs. (mut-tells (named 0) (κs .0) S.the-row, (shr-slice-tells (named 1) (κs .1 .0) u8, tt)))
       (λ κs qs bounds a g are. via 𝓤 _ (fst∗ 𝓤 _ (emp 𝓤)) (walk 𝓤 H A W mem run (κs .0) (κs .1 .0) bounds (qs .0) (qs .1 .0) (a .0 .ptr .0) (a .0 .ptr .1) (a .0 .name) (a .0 .now) (a .1 .0) C Λ fm known (are .1 .0)))
 
-piece-meets : {M : Type 1} (𝓤 : URA M) (H : Heap 𝓤) (A : Atoms 𝓤) → Given 𝓤 H A → (mem : Memory → SProp 𝓤) (run : Routine → Fun 𝓤) (𝓣 : Tables 𝓤 H) → Triple 𝓤 (𝓣 .C #called) (Callee 𝓤 H A mem run)
+this-meets : {M : Type 1} (𝓤 : URA M) (H : Heap 𝓤) (A : Atoms 𝓤) → Given 𝓤 H A → (mem : Memory → SProp 𝓤) (run : Routine → Fun 𝓤) (𝓣 : Tables 𝓤 H) → Triple 𝓤 (𝓣 .C #called) (Callee 𝓤 H A mem run)
     → Meets 𝓤 H A f.signature (WpFn 𝓤 H (𝓣 .C) (𝓣 .Λ) code.function) (f.spec 𝓤 H A mem run)
-piece-meets 𝓤 H A W mem run 𝓣 known =
+this-meets 𝓤 H A W mem run 𝓣 known =
     walk-meets 𝓤 H A f.ended stayed W (goes-ref 𝓤 H A W 2 0 tt (plain (λ _. S.the-row)), (goes-none-slice 𝓤 H A W 2 (1 ∷ []) tt (plain (λ _. u8)) yes, tt)) (f.clauses 𝓤 H A mem run)
-    (WpFn 𝓤 H (𝓣 .C) (𝓣 .Λ) code.function) (WpFn-mono 𝓤 H (W .laws) 𝓣 code.function) (piece-walks 𝓤 H A W mem run (𝓣 .C) (𝓣 .Λ) (fmOf 𝓤 H (W .laws) 𝓣) known)
+    (WpFn 𝓤 H (𝓣 .C) (𝓣 .Λ) code.function) (WpFn-mono 𝓤 H (W .laws) 𝓣 code.function) (this-walks 𝓤 H A W mem run (𝓣 .C) (𝓣 .Λ) (fmOf 𝓤 H (W .laws) 𝓣) known)
 
-pub piece-spec : {M : Type 1} → stated.statement M
+pub jdr-session-piece-spec : {M : Type 1} → stated.statement M
 unfolding code.routine tablesOf
-piece-spec 𝓤 H 𝓜 𝓖 𝓡 =
+jdr-session-piece-spec 𝓤 H 𝓜 𝓖 𝓡 =
     entered 𝓤 H (tripleOf 𝓤 H (𝓖 .A) f.signature (f.spec 𝓤 H (𝓖 .A) (𝓜 .mem) (𝓡 .run)))
-    (tables 𝓤 H 𝓜 𝓡 code.env .C) (tables 𝓤 H 𝓜 𝓡 code.env .Λ) #lent·piece code.function (code.unfolded 𝓤 H 𝓜 𝓡)
-    (piece-meets 𝓤 H (𝓖 .A) (givenOf 𝓤 H 𝓜 𝓖) (𝓜 .mem) (𝓡 .run) (tablesOf 𝓤 H 𝓜 (tables 𝓤 H 𝓜 𝓡 code.env))
+    (tables 𝓤 H 𝓜 𝓡 code.env .C) (tables 𝓤 H 𝓜 𝓡 code.env .Λ) #this code.function (code.unfolded 𝓤 H 𝓜 𝓡)
+    (this-meets 𝓤 H (𝓖 .A) (givenOf 𝓤 H 𝓜 𝓖) (𝓜 .mem) (𝓡 .run) (tablesOf 𝓤 H 𝓜 (tables 𝓤 H 𝓜 𝓡 code.env))
     (cited 𝓤 H (Callee 𝓤 H (𝓖 .A) (𝓜 .mem) (𝓡 .run)) 𝓜 𝓡 code.env #called callee-def.routine code.calls-session·piece·pieced (callee-thm.met 𝓤 H 𝓜 𝓖 𝓡)))
