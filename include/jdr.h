@@ -13,6 +13,12 @@
 #include <stddef.h>
 #include <stdint.h>
 
+/* The version of the library, which is not the format's. Programs that were built with one major version work with every later minor one. */
+#define JDR_LIBRARY_MAJOR 1
+#define JDR_LIBRARY_MINOR 0
+#define JDR_LIBRARY_PATCH 0
+#define JDR_LIBRARY_VERSION "1.0.0"
+
 #ifdef __cplusplus
 extern "C" {
 #endif
@@ -110,6 +116,13 @@ struct jdr_box {
     double left, bottom, right, top;
 };
 
+/* Names for the structs that are one word in C++ too, where a function hides the struct that shares its name. */
+typedef struct jdr_answer jdr_answer_t;
+typedef struct jdr_color jdr_color_t;
+typedef struct jdr_paint jdr_paint_t;
+typedef struct jdr_text jdr_text_t;
+typedef struct jdr_box jdr_box_t;
+
 /* Reads a file into a table: contents, a row an object in the order in which objects open, and bodies, which begin with the minor version
  * number and the settings. In a flag any byte but 0 is true, and its word is 1. 0 to 15, never 5. Room for rows is whole rows. A call with
  * no room gives the counts needed (14), or the refusal. */
@@ -157,6 +170,44 @@ struct jdr_text jdr_text(const uint32_t *contents, size_t contents_len, const ui
  * included. Of equal coordinates the first is kept, 0 and -0 among them; nothing is rounded, and infinities are allowed. The table's used
  * words are lent exactly. 0; 16, then 6, then 7, then 20. */
 struct jdr_box jdr_box(const uint32_t *contents, size_t contents_len, const uint32_t *bodies, size_t bodies_len, uint32_t row);
+
+/* A sentence for the number of an answer. */
+static inline const char *jdr_message(uint32_t number)
+{
+    switch (number) {
+    case JDR_ACCEPTED: return "accepted";
+    case JDR_TOO_LONG: return "the file is longer than the limit";
+    case JDR_CUT: return "the file ends before or within a field";
+    case JDR_NO_JDR: return "the file does not begin with 'JDR'";
+    case JDR_BAD_VERSION: return "the version is not one that is read";
+    case JDR_BAD_FLAG: return "a flag is neither 0 nor 1";
+    case JDR_OUT_OF_RANGE: return "a byte or an integer is out of range";
+    case JDR_BAD_CHAR: return "a char is not allowed here in this version";
+    case JDR_BAD_COUNT: return "a count or a length is negative, 0 where 1 is needed, or an odd number of dashes";
+    case JDR_BAD_COMPONENT: return "a paint component is out of range";
+    case JDR_TOO_DEEP: return "groups are nested too deep, or a chain has too many markers";
+    case JDR_FLOW_FRAME: return "an object has a flow frame";
+    case JDR_UNJOINED: return "a segment does not start where the one before it ends";
+    case JDR_TRAILING_BYTES: return "bytes follow the end of the drawing";
+    case JDR_CONTENTS_TOO_SHORT: return "the contents lent are too short";
+    case JDR_BODIES_TOO_SHORT: return "the bodies lent are too short";
+    case JDR_NO_TABLE: return "the words are no table of a drawing";
+    case JDR_OUTPUT_TOO_SHORT: return "the output lent is too short";
+    case JDR_LIST_TOO_SHORT: return "the list lent is too short";
+    case JDR_NOT_A_NUMBER: return "a coordinate is not a number";
+    default: return "a number that no call gives";
+    }
+}
+
+/* The same for the questions about a row, in which two numbers mean something else. */
+static inline const char *jdr_row_message(uint32_t number)
+{
+    switch (number) {
+    case JDR_NO_ROW: return "the table has no such row";
+    case JDR_NO_PART: return "the row's object has no such part";
+    default: return jdr_message(number);
+    }
+}
 
 #ifdef __cplusplus
 }
