@@ -1,0 +1,161 @@
+"""Plans as a program uses them: the example plans, refusals, every char as a label, and what is not a table, a row or a run."""
+
+import pickle
+import random
+import unittest
+from array import array
+from concurrent.futures import ThreadPoolExecutor
+
+import committed
+import jdr
+from jdr import Kind, Plan, Refused, Space, Which, calls, numbers
+
+HALL = committed.PLANS["hall.jdr"]
+
+
+class Plans(unittest.TestCase):
+    """The example plans."""
+
+    def test_every_plan_comes_back(self):
+        for name, file in committed.PLANS.items():
+            with self.subTest(name):
+                if name == "cut.jdr":
+                    continue
+                plan = Plan.read(file)
+                self.assertEqual((plan.write(), plan.check()), (file, len(file)))
+                self.assertEqual(Plan.read(bytearray(file)), Plan.read(memoryview(file)))
+                self.assertEqual(pickle.loads(pickle.dumps(plan)), plan)
+
+    def test_a_cut_plan_is_refused(self):
+        file = committed.PLANS["cut.jdr"]
+        with self.assertRaises(Refused) as caught:
+            Plan.read(file)
+        refusal = caught.exception
+        self.assertEqual((refusal.number, refusal.message), (numbers.CUT, numbers.MESSAGES[numbers.CUT]))
+        self.assertLess(refusal.offset, len(file))
+        self.assertIn(refusal.message, str(refusal))
+        self.assertEqual(pickle.loads(pickle.dumps(refusal)).args, refusal.args)
+
+    def test_groups_are_around_their_objects(self):
+        for file in (HALL, committed.PLANS["bays.jdr"]):
+            plan = Plan.read(file)
+            # a group's rows follow its own, up to the next row whose groups do not have it
+            for each in plan.objects:
+                around = each.groups
+                self.assertEqual(around[:1], [each.parent] if each.row else [])
+                self.assertTrue(all(group.kind is Kind.GROUP and group.row < each.row for group in around))
+                self.assertEqual(each.row == 0, not around)
+                self.assertEqual(around[-1:], [plan.objects[0]] if each.row else [])
+
+    def test_objects_are_a_sequence(self):
+        objects = Plan.read(HALL).objects
+        self.assertEqual([each.row for each in objects], list(range(len(objects))))
+        self.assertEqual((objects[-1].row, len(objects[1:3])), (len(objects) - 1, 2))
+        with self.assertRaises(IndexError):
+            objects[len(objects)]
+
+    def test_threads_may_share_a_plan(self):
+        plan = Plan.read(HALL)
+        with ThreadPoolExecutor(4) as threads:
+            found = list(threads.map(lambda _: (plan.find("machine"), plan.write(), plan.extent(3)), range(200)))
+        self.assertEqual(found, found[:1] * 200)
+        self.assertEqual(len(found[0][0]), 3)
+
+    def test_tables_cannot_be_written_to(self):
+        plan = Plan.read(HALL)
+        for run in (plan.contents, plan.bodies, plan.objects[1].body):
+            with self.assertRaises(TypeError):
+                run[0] = 1
+
+    def test_a_path_has_its_colours(self):
+        plan = Plan.read(HALL)
+        path = next(each for each in plan.objects if each.kind is Kind.PATH)
+        self.assertEqual([path.paint(which) is None for which in Which], [False, False, True])
+        for which in (Which.LINE, Which.FILL):
+            paint = plan.paint(path, which)
+            self.assertIsNone(paint.second)
+            self.assertEqual(len(paint.first.components), {Space.RGB: 4, Space.GREY: 2}[paint.first.space])
+            self.assertEqual(paint.first.components[-1], 1.0)
+
+
+class Refusals(unittest.TestCase):
+    """What is refused, and what is a mistake of the program."""
+
+    def number_of(self, call, *arguments):
+        with self.assertRaises(Refused) as caught:
+            call(*arguments)
+        return caught.exception.number, caught.exception.message
+
+    def test_rows_and_parts(self):
+        plan = Plan.read(HALL)
+        no_row, no_part = ((number, numbers.ROW_MESSAGES[number]) for number in (numbers.NO_ROW, numbers.NO_PART))
+        for row in (len(plan.objects), -1, 1 << 30, 1 << 32, (1 << 32) + 3, 1 << 80):
+            self.assertEqual(self.number_of(plan.text, row), no_row)
+            self.assertEqual(self.number_of(plan.extent, row), no_row)
+            self.assertEqual(self.number_of(plan.paint, row, Which.LINE), no_row)
+        self.assertEqual(self.number_of(plan.text, 0), no_part)
+        for which in (3, -1, 1 << 32):
+            self.assertEqual(self.number_of(plan.paint, 3, which), no_part)
+        self.assertEqual(plan.objects[0].text, None)
+
+    def test_words_that_are_no_table(self):
+        plan = Plan.read(HALL)
+        for contents, bodies in (((), ()), (plan.contents, plan.bodies[:-1]), (plan.contents[:-1], plan.bodies)):
+            self.assertEqual(self.number_of(Plan, contents, bodies)[0], numbers.NO_TABLE)
+
+    def test_a_file_that_is_too_long(self):
+        self.assertEqual(self.number_of(Plan.read, bytes(1 << 22))[0], numbers.TOO_LONG)
+
+    def test_runs_of_another_size(self):
+        words, octets = calls.words(4), calls.octets(16)
+        for wrong in ((words, words, words), (octets, octets, words), ("text", words, words), (b"", b"", words)):
+            with self.assertRaises(TypeError):
+                calls.read(*wrong)
+        with self.assertRaises(TypeError):
+            calls.check(words)
+        with self.assertRaises(TypeError):
+            calls.find(words, words, b"odd", words)
+        with self.assertRaises(OverflowError):
+            calls.text(words, words, -1)
+
+
+class Labels(unittest.TestCase):
+    """Labels and texts are any chars, lone halves of pairs among them."""
+
+    def described(self, units):
+        """The hall with these chars for the description of its outer group, which are the last words of the bodies."""
+        plan = Plan.read(HALL)
+        contents, bodies = array("I", plan.contents), array("I", plan.bodies)
+        old = len("hall")
+        self.assertEqual(bodies[-old:].tolist(), list(map(ord, "hall")))
+        bodies[-old - 1 :] = array("I", [len(units), *units])
+        contents[3] += len(units) - old
+        return Plan(contents, bodies)
+
+    def test_every_char_can_be_asked_for(self):
+        chars = random.Random(1)
+        pools = [range(0x10000), range(0xD800, 0xE000), range(0x20, 0x7F), [0, 0xFEFF, 0xFFFF, 0xD800, 0xDC00]]
+        for _ in range(300):
+            pool = chars.choice(pools)
+            units = [chars.choice(pool) for _ in range(chars.randrange(1, 9))]
+            plan = self.described(units)
+            label = array("H", units).tobytes().decode(calls.ENCODING, "surrogatepass")
+            self.assertEqual([found.row for found in plan.find(label)], [0])
+            self.assertEqual(plan.find(label + "\0"), [])
+            self.assertEqual(Plan.read(plan.write()), plan)
+
+    def test_a_pair_is_one_character(self):
+        self.assertEqual([found.row for found in self.described([0xD83D, 0xDD27]).find("🔧")], [0])
+        self.assertEqual([found.row for found in self.described([0xDD27, 0xD83D]).find("\udd27\ud83d")], [0])
+
+
+class Names(unittest.TestCase):
+    """What the package says of itself."""
+
+    def test_all_that_is_named_is_there(self):
+        for name in jdr.__all__:
+            self.assertTrue(getattr(jdr, name).__doc__, name)
+
+
+if __name__ == "__main__":
+    unittest.main()
