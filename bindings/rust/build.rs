@@ -9,10 +9,8 @@ fn main() {
     let folder = env::var_os("JDR_C_DIR").map_or_else(|| here.join("../../target/library"), PathBuf::from);
     let archive = folder.join("libjdr_c.a");
     if !archive.exists() {
-        let missing = Path::display(&archive);
-        println!(
-            "cargo:warning={missing} is not there: tools/library makes it, or JDR_C_DIR names another folder"
-        );
+        let missing = archive.display();
+        println!("cargo:warning={missing} is missing: tools/library makes it, or JDR_C_DIR names its folder");
     }
     println!("cargo:rerun-if-changed={}", archive.display());
     println!("cargo:rustc-link-search=native={}", folder.display());
