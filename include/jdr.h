@@ -21,6 +21,10 @@
 
 #ifdef __cplusplus
 extern "C" {
+#ifdef __GNUC__
+#pragma GCC diagnostic push
+#pragma GCC diagnostic ignored "-Wshadow" /* functions share the names of structs, as stat does */
+#endif
 #endif
 
 /* The numbers given back. The offset is the first byte of the field at fault where nothing else is said; for 1 to 13 both counts are 0. */
@@ -210,6 +214,9 @@ static inline const char *jdr_row_message(uint32_t number)
 }
 
 #ifdef __cplusplus
+#ifdef __GNUC__
+#pragma GCC diagnostic pop
+#endif
 }
 #endif
 
