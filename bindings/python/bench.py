@@ -8,8 +8,8 @@ import time
 from jdr import Plan, Refused, Which
 
 # A measurement is the best of so many batches, each of about this time: a shared machine only ever slows one down.
-BATCHES = 15
-BATCH = 0.008
+BATCHES = 60
+BATCH = 0.003
 
 
 def timed(count, call):

@@ -6,8 +6,8 @@ use std::hint::black_box;
 use std::time::{Duration, Instant};
 
 /// A measurement is the best of so many batches, each of about this time: a shared machine only ever slows one down.
-const BATCHES: usize = 15;
-const BATCH: Duration = Duration::from_millis(8);
+const BATCHES: usize = 60;
+const BATCH: Duration = Duration::from_millis(3);
 
 fn timed<T>(count: u32, call: &mut impl FnMut() -> T) -> Duration {
     let begun = Instant::now();
