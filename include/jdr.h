@@ -198,6 +198,7 @@ static inline const char *jdr_message(uint32_t number)
     case JDR_NO_TABLE: return "the words are no table of a drawing";
     case JDR_OUTPUT_TOO_SHORT: return "the output lent is too short";
     case JDR_LIST_TOO_SHORT: return "the list lent is too short";
+    case JDR_NO_SHEET: return "the bytes are no sheet of a table";
     case JDR_NOT_A_NUMBER: return "a coordinate is not a number";
     default: return "a number that no call gives";
     }

@@ -5,7 +5,7 @@
 
 #include <jdr.h>
 
-static uint8_t file[JDR_LONGEST_FILE + 1], copy[JDR_LONGEST_FILE];
+static uint8_t file[JDR_LONGEST_FILE + 1], copy[JDR_LONGEST_FILE], sheet[12 * JDR_LONGEST_FILE];
 static uint32_t contents[JDR_LONGEST_FILE * JDR_ROW_WORDS], bodies[JDR_LONGEST_FILE], entries[JDR_LONGEST_FILE];
 
 static const char *paint_name(uint32_t which)
@@ -63,6 +63,10 @@ int main(int count, char **arguments)
     printf("check: %s, %u bytes\n", jdr_message(answer.number), (unsigned)answer.offset);
     answer = jdr_write(contents, rows, bodies, words, copy, sizeof copy);
     printf("write: %s, %s\n", jdr_message(answer.number), memcmp(file, copy, length) == 0 ? "the same" : "ANOTHER");
+    answer = jdr_sheet_write(contents, rows, bodies, words, sheet, sizeof sheet);
+    printf("sheet_write: %s, %u bytes\n", jdr_message(answer.number), (unsigned)answer.offset);
+    answer = jdr_sheet_read(sheet, answer.offset, contents, rows, bodies, words);
+    printf("sheet_read: %s, %u rows\n", jdr_message(answer.number), (unsigned)answer.rows);
     answer = jdr_list(contents, rows, bodies, words, label, sizeof label / sizeof *label, entries, sizeof entries / sizeof *entries);
     printf("list: %s, %u found\n", jdr_message(answer.number), (unsigned)answer.rows);
 

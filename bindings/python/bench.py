@@ -40,10 +40,13 @@ def asked(question, *arguments):
 
 def measure(name, file):
     plan = Plan.read(file)
+    sheet = plan.write_sheet()
     measured = {
         "read": lambda: Plan.read(file),
         "check": plan.check,
         "write": plan.write,
+        "sheet_write": plan.write_sheet,
+        "sheet_read": lambda: Plan.read_sheet(sheet),
         "find": lambda: plan.find(""),
         "paint": asked(plan.paint, 1, Which.LINE),
         "text": asked(plan.text, 1),

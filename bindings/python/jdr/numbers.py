@@ -21,6 +21,7 @@ BODIES_TOO_SHORT = 15
 NO_TABLE = 16
 OUTPUT_TOO_SHORT = 17
 LIST_TOO_SHORT = 18
+NO_SHEET = 19
 NOT_A_NUMBER = 20
 
 # of the questions about a row, which give these two another meaning
@@ -47,6 +48,7 @@ MESSAGES = {
     NO_TABLE: "the words are no table of a drawing",
     OUTPUT_TOO_SHORT: "the output lent is too short",
     LIST_TOO_SHORT: "the list lent is too short",
+    NO_SHEET: "the bytes are no sheet of a table",
     NOT_A_NUMBER: "a coordinate is not a number",
 }
 UNKNOWN = "a number that no call gives"

@@ -64,6 +64,11 @@ class Plan:
         """Reads the bytes of a JDR file. Refused where they are not a whole drawing, with the offset of the field at fault."""
         return cls._filled(calls.read, file)
 
+    @classmethod
+    def read_sheet(cls, sheet: Bytes) -> Plan:
+        """Reads a sheet, as `write_sheet` gives it. Refused (19) where the bytes are none."""
+        return cls._filled(calls.sheet_read, sheet)
+
     @property
     def contents(self) -> memoryview:
         """The rows, four words each: kind, row of the parent, start and length of the body in the bodies. Not to be written to."""
@@ -102,6 +107,10 @@ class Plan:
     def write(self) -> bytes:
         """The bytes of the plan's file: those that it was read from."""
         return self._written(calls.write)
+
+    def write_sheet(self) -> bytes:
+        """The plan's table as a sheet: bytes to keep, from which the plan is read again."""
+        return self._written(calls.sheet_write)
 
     def find(self, label: str) -> list[Object]:
         """Every object whose description is the label, char for char, in the order in which they open.

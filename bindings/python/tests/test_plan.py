@@ -2,6 +2,7 @@
 
 import pickle
 import random
+import struct
 import unittest
 from array import array
 from concurrent.futures import ThreadPoolExecutor
@@ -76,6 +77,27 @@ class Plans(unittest.TestCase):
             self.assertIsNone(paint.second)
             self.assertEqual(len(paint.first.components), {Space.RGB: 4, Space.GREY: 2}[paint.first.space])
             self.assertEqual(paint.first.components[-1], 1.0)
+
+
+class Sheets(unittest.TestCase):
+    """Tables stored as sheets: counts and contents of 16 bits, bodies of 32, all big-endian."""
+
+    def test_every_plan_has_one_sheet(self):
+        for name, file, groups in committed.of("read"):
+            if groups[0].startswith("0 "):
+                with self.subTest(name):
+                    plan = Plan.read(file)
+                    sheet = plan.write_sheet()
+                    halves = [len(plan.objects), len(plan.bodies), *plan.contents]
+                    self.assertEqual(sheet, struct.pack(f">{len(halves)}H{len(plan.bodies)}I", *halves, *plan.bodies))
+                    self.assertEqual(Plan.read_sheet(sheet), plan)
+
+    def test_what_is_no_sheet(self):
+        sheet = Plan.read(HALL).write_sheet()
+        for wrong in (b"", sheet[:-1], sheet + b"\0", HALL, bytes(len(sheet)), sheet[:-1] + b"\xff\xff"):
+            with self.assertRaises(Refused) as caught:
+                Plan.read_sheet(wrong)
+            self.assertEqual((caught.exception.number, caught.exception.offset), (numbers.NO_SHEET, 0))
 
 
 class Refusals(unittest.TestCase):

@@ -41,6 +41,12 @@ fn measure(name: &str, file: &[u8]) -> Result<(), jdr::Refused> {
     line("check", c, time(|| black_box(plan).file_len()));
     let c = time(|| calls::write(black_box(contents), bodies, &mut to_file));
     line("write", c, time(|| black_box(plan).write()));
+    let mut to_sheet = plan.write_sheet();
+    let sheet = to_sheet.clone();
+    let c = time(|| calls::sheet_write(black_box(contents), bodies, &mut to_sheet));
+    line("sheet_write", c, time(|| black_box(plan).write_sheet()));
+    let c = time(|| calls::sheet_read(black_box(&sheet), &mut to_contents, &mut to_bodies));
+    line("sheet_read", c, time(|| Table::read_sheet(black_box(&sheet))));
     let c = time(|| calls::list(black_box(contents), bodies, &[], &mut to_entries));
     line("find", c, time(|| black_box(plan).find("").map(|found| found.row()).sum::<u32>()));
     let c = time(|| calls::paint(black_box(contents), bodies, 1, 0));

@@ -80,6 +80,22 @@ mod c {
             file: *mut u8,
             file_len: usize,
         ) -> Answer;
+        pub fn jdr_sheet_write(
+            contents: *const u32,
+            contents_len: usize,
+            bodies: *const u32,
+            bodies_len: usize,
+            sheet: *mut u8,
+            sheet_len: usize,
+        ) -> Answer;
+        pub fn jdr_sheet_read(
+            sheet: *const u8,
+            sheet_len: usize,
+            contents: *mut u32,
+            contents_len: usize,
+            bodies: *mut u32,
+            bodies_len: usize,
+        ) -> Answer;
         pub fn jdr_list(
             contents: *const u32,
             contents_len: usize,
@@ -145,6 +161,16 @@ pub fn check(contents: &[u32], bodies: &[u32]) -> Answer {
 /// Writes the file of a table.
 pub fn write(contents: &[u32], bodies: &[u32], file: &mut [u8]) -> Answer {
     call!(jdr_write, &contents, &bodies, &mut file)
+}
+
+/// Writes the sheet of a table.
+pub fn sheet_write(contents: &[u32], bodies: &[u32], sheet: &mut [u8]) -> Answer {
+    call!(jdr_sheet_write, &contents, &bodies, &mut sheet)
+}
+
+/// Reads a sheet into a table. With too little room the answer has the counts that are needed.
+pub fn sheet_read(sheet: &[u8], contents: &mut [u32], bodies: &mut [u32]) -> Answer {
+    call!(jdr_sheet_read, &sheet, &mut contents, &mut bodies)
 }
 
 /// Stores the rows of the objects whose description is the label.

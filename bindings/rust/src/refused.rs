@@ -75,6 +75,7 @@ reasons! {
         NoTable = 16, "the words are no table of a drawing";
         OutputTooShort = 17, "the output lent is too short";
         ListTooShort = 18, "the list lent is too short";
+        NoSheet = 19, "the bytes are no sheet of a table";
         NotANumber = 20, "a coordinate is not a number";
     }
     rows {

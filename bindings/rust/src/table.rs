@@ -1,9 +1,9 @@
 //! A plan that owns its memory.
 
-use crate::calls;
+use crate::calls::{self, Answer};
 use crate::parts::{Extent, Paint, Text, Which};
 use crate::refused::Refused;
-use crate::table_ref::{Entries, Object, TableRef};
+use crate::table_ref::{Entries, Object, Room, TableRef};
 use alloc::vec;
 use alloc::vec::Vec;
 
@@ -20,9 +20,22 @@ pub type Found<'a> = Entries<'a, vec::IntoIter<u32>>;
 impl Table {
     /// Reads the bytes of a JDR file.
     pub fn read(file: &[u8]) -> Result<Table, Refused> {
-        let room = TableRef::room(file)?;
+        Table::filled(file, TableRef::room(file)?, calls::read)
+    }
+
+    /// Reads a sheet, as [`Table::write_sheet`] gives it.
+    pub fn read_sheet(sheet: &[u8]) -> Result<Table, Refused> {
+        Table::filled(sheet, TableRef::sheet_room(sheet)?, calls::sheet_read)
+    }
+
+    /// What a call reads into this much room.
+    fn filled(
+        source: &[u8],
+        room: Room,
+        call: fn(&[u8], &mut [u32], &mut [u32]) -> Answer,
+    ) -> Result<Table, Refused> {
         let (mut contents, mut bodies) = (vec![0; room.contents], vec![0; room.bodies]);
-        calls::read(file, &mut contents, &mut bodies).accepted()?;
+        call(source, &mut contents, &mut bodies).accepted()?;
         Ok(Table { contents, bodies })
     }
 
@@ -45,6 +58,11 @@ impl Table {
     /// The bytes of the plan's file: those that it was read from.
     pub fn write(&self) -> Vec<u8> {
         self.view().write()
+    }
+
+    /// The plan's table as a sheet: bytes to keep, from which the plan is read again.
+    pub fn write_sheet(&self) -> Vec<u8> {
+        self.view().write_sheet()
     }
 
     /// [`TableRef::find`].
@@ -80,6 +98,13 @@ impl<'a> TableRef<'a> {
         let mut file = vec![0; self.file_len()];
         self.write_into(&mut file).expect("room for the whole file");
         file
+    }
+
+    /// The bytes of the plan's sheet.
+    pub fn write_sheet(self) -> Vec<u8> {
+        let mut sheet = vec![0; self.sheet_len()];
+        self.write_sheet_into(&mut sheet).expect("room for the whole sheet");
+        sheet
     }
 
     /// The objects whose description is the label, char for char, in the order in which they open.

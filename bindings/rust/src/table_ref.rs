@@ -28,7 +28,17 @@ pub struct TableRef<'a> {
 impl<'a> TableRef<'a> {
     /// How much room the table of this file needs.
     pub fn room(file: &[u8]) -> Result<Room, Refused> {
-        match calls::read(file, &mut [], &mut []).accepted() {
+        Self::room_asked(calls::read(file, &mut [], &mut []))
+    }
+
+    /// How much room the table of this sheet needs.
+    pub fn sheet_room(sheet: &[u8]) -> Result<Room, Refused> {
+        Self::room_asked(calls::sheet_read(sheet, &mut [], &mut []))
+    }
+
+    /// The room that a call which was lent none asks for.
+    fn room_asked(answer: calls::Answer) -> Result<Room, Refused> {
+        match answer.accepted() {
             Err(Refused { reason: Reason::ContentsTooShort, rows, words, .. }) => {
                 Ok(Room { contents: rows as usize * ROW_WORDS, bodies: words as usize })
             }
@@ -40,10 +50,19 @@ impl<'a> TableRef<'a> {
     /// Reads a file into the room lent, whose beginning then is the table.
     pub fn read(file: &[u8], contents: &'a mut [u32], bodies: &'a mut [u32]) -> Result<Self, Refused> {
         let read = calls::read(file, contents, bodies).accepted()?;
-        Ok(TableRef {
-            contents: &contents[..read.rows as usize * ROW_WORDS],
-            bodies: &bodies[..read.words as usize],
-        })
+        Ok(Self::beginning(contents, bodies, read))
+    }
+
+    /// Reads a sheet into the room lent, whose beginning then is the table.
+    pub fn read_sheet(sheet: &[u8], contents: &'a mut [u32], bodies: &'a mut [u32]) -> Result<Self, Refused> {
+        let read = calls::sheet_read(sheet, contents, bodies).accepted()?;
+        Ok(Self::beginning(contents, bodies, read))
+    }
+
+    /// The table that a call has stored.
+    fn beginning(contents: &'a [u32], bodies: &'a [u32], read: calls::Answer) -> Self {
+        let rows = read.rows as usize;
+        TableRef { contents: &contents[..rows * ROW_WORDS], bodies: &bodies[..read.words as usize] }
     }
 
     /// The plan of a table, the used words exactly.
@@ -81,6 +100,16 @@ impl<'a> TableRef<'a> {
     /// Writes the plan's file into the room lent, and gives how many bytes it has.
     pub fn write_into(self, file: &mut [u8]) -> Result<usize, Refused> {
         Ok(calls::write(self.contents, self.bodies, file).accepted()?.offset as usize)
+    }
+
+    /// How many bytes the plan's sheet has.
+    pub fn sheet_len(self) -> usize {
+        calls::sheet_write(self.contents, self.bodies, &mut []).offset as usize
+    }
+
+    /// Writes the plan's sheet into the room lent, and gives how many bytes it has.
+    pub fn write_sheet_into(self, sheet: &mut [u8]) -> Result<usize, Refused> {
+        Ok(calls::sheet_write(self.contents, self.bodies, sheet).accepted()?.offset as usize)
     }
 
     /// The objects whose description is the label, char for char, in the order in which they open. Their rows are stored in the room lent,

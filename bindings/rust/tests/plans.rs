@@ -88,6 +88,22 @@ fn room_that_is_short_is_said() {
     assert_eq!((refused.reason, refused.offset), (Reason::ListTooShort, 3));
 }
 
+#[test]
+fn every_plan_has_one_sheet() {
+    let files = common::cases("read").into_iter().filter(|case| case.groups[0].starts_with("0 "));
+    for file in files.map(|case| case.data) {
+        let table = Table::read(&file).expect("it was accepted");
+        let sheet = table.write_sheet();
+        let (contents, bodies) = (table.view().contents(), table.view().bodies());
+        let counts = [(contents.len() / jdr::ROW_WORDS) as u32, bodies.len() as u32];
+        let halves = counts.iter().chain(contents).flat_map(|word| (*word as u16).to_be_bytes());
+        assert!(halves.chain(bodies.iter().flat_map(|word| word.to_be_bytes())).eq(sheet.iter().copied()));
+        assert_eq!(Table::read_sheet(&sheet), Ok(table));
+        let refused = Table::read_sheet(&sheet[1..]).expect_err("the first byte is missing");
+        assert_eq!((refused.reason, refused.offset), (Reason::NoSheet, 0));
+    }
+}
+
 /// The hall, with these chars for the description of its outer group, which are the last words of the bodies.
 fn described(units: &[u16]) -> Table {
     let (mut contents, mut bodies) = Table::read(&plan("hall.jdr")).expect("a good plan").into_words();
