@@ -114,6 +114,12 @@ struct jdr_text {
     uint32_t number, alternative_start, alternative_length, text_start, text_length;
 };
 
+/* What jdr_description answers: a number, and where in the bodies the chars of a row's description stand, one a word. Below version 1.2 the length is
+ * 0. With a refusal both are 0. */
+struct jdr_description {
+    uint32_t number, start, length;
+};
+
 /* What jdr_box answers: a number, and the least x and y and the greatest x and y. With a refusal all four are +0. */
 struct jdr_box {
     uint32_t number;
@@ -125,6 +131,7 @@ typedef struct jdr_answer jdr_answer_t;
 typedef struct jdr_color jdr_color_t;
 typedef struct jdr_paint jdr_paint_t;
 typedef struct jdr_text jdr_text_t;
+typedef struct jdr_description jdr_description_t;
 typedef struct jdr_box jdr_box_t;
 
 /* Reads a file into a table: contents, a row an object in the order in which objects open, and bodies, which begin with the minor version
@@ -157,7 +164,7 @@ struct jdr_answer jdr_sheet_read(const uint8_t *sheet, size_t sheet_len, uint32_
 struct jdr_answer jdr_list(const uint32_t *contents, size_t contents_len, const uint32_t *bodies, size_t bodies_len, const uint16_t *label,
                            size_t label_len, uint32_t *entries, size_t entries_len);
 
-/* The numbers of the three questions about a row are others: */
+/* The numbers of the questions about a row are others: */
 enum {
     JDR_NO_ROW = 6,              /* the table has no such row */
     JDR_NO_PART = 7              /* the row's object has no such part */
@@ -169,6 +176,9 @@ struct jdr_paint jdr_paint(const uint32_t *contents, size_t contents_len, const 
 
 /* Where the chars of a text, or of a text along a path, stand: a row of a table, whose used words are lent exactly. 0; 16, then 6, then 7. */
 struct jdr_text jdr_text(const uint32_t *contents, size_t contents_len, const uint32_t *bodies, size_t bodies_len, uint32_t row);
+
+/* Where the chars of an object's description stand: of any row of a table, whose used words are lent exactly. 0; 16, then 6. */
+struct jdr_description jdr_description(const uint32_t *contents, size_t contents_len, const uint32_t *bodies, size_t bodies_len, uint32_t row);
 
 /* The box around the outline of a path, or of a text along a path: over its start and every point of every segment, control points
  * included. Of equal coordinates the first is kept, 0 and -0 among them; nothing is rounded, and infinities are allowed. The table's used

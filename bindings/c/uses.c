@@ -72,9 +72,11 @@ int main(int count, char **arguments)
 
     for (row = 0; row <= rows / JDR_ROW_WORDS; row++) {
         jdr_text_t text = jdr_text(contents, rows, bodies, words, row);
+        jdr_description_t description = jdr_description(contents, rows, bodies, words, row);
         jdr_box_t box = jdr_box(contents, rows, bodies, words, row);
         printf("row %u %s text: %s; box: %s, %g\n", (unsigned)row, kind_name(contents[row * JDR_ROW_WORDS]), jdr_row_message(text.number),
                jdr_row_message(box.number), box.right - box.left);
+        printf("  description: %s, %u chars\n", jdr_row_message(description.number), (unsigned)description.length);
         for (which = 0; which < 3; which++) {
             jdr_paint_t paint = jdr_paint(contents, rows, bodies, words, row, which);
             if (paint.number == JDR_ACCEPTED)

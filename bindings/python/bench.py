@@ -50,6 +50,7 @@ def measure(name, file):
         "find": lambda: plan.find(""),
         "paint": asked(plan.paint, 1, Which.LINE),
         "text": asked(plan.text, 1),
+        "description": asked(plan.description, 1),
         "box": asked(plan.extent, 1),
         "walk": lambda: sum(each.kind + len(each.groups) for each in plan.objects),
     }

@@ -73,6 +73,12 @@ class TextAnswer(_Struct):
     _fields_ = _numbers("number", "alternative_start", "alternative_length", "text_start", "text_length")
 
 
+class DescriptionAnswer(_Struct):
+    """A number, and where in the bodies the chars of a description stand, one a word."""
+
+    _fields_ = _numbers("number", "start", "length")
+
+
 class BoxAnswer(_Struct):
     """A number, and a box: the least x and y, then the greatest x and y."""
 
@@ -137,4 +143,5 @@ sheet_read = _call("jdr_sheet_read", "sheet_read(sheet, contents, bodies): reads
 find = _call("jdr_list", "find(contents, bodies, label, entries): stores the rows with a label.", (*_TABLE, _CHAR, _WORD), Answer, written=1)
 paint = _call("jdr_paint", "paint(contents, bodies, row, which): a paint of a row's object.", _TABLE, PaintAnswer, numbers=2)
 text = _call("jdr_text", "text(contents, bodies, row): where the chars of a row's text stand.", _TABLE, TextAnswer, numbers=1)
+description = _call("jdr_description", "description(contents, bodies, row): where the chars of a row's description stand.", _TABLE, DescriptionAnswer, numbers=1)
 box = _call("jdr_box", "box(contents, bodies, row): the box around a row's outline.", _TABLE, BoxAnswer, numbers=1)

@@ -140,6 +140,11 @@ class Plan:
         places = self._ask(calls.text, row)
         return Text(self._text_at(places.alternative_start, places.alternative_length), self._text_at(places.text_start, places.text_length))
 
+    def description(self, row: SupportsIndex) -> str:
+        """The description of an object, which is its label; empty below version 1.2. Refused: no such row (6)."""
+        place = self._ask(calls.description, row)
+        return self._text_at(place.start, place.length)
+
     def extent(self, row: SupportsIndex) -> Box:
         """The box around a path, or a text along a path. Refused: no such row (6), no path (7), a coordinate is not a number (20)."""
         sides = self._ask(calls.box, row)
@@ -222,6 +227,11 @@ class Object:
         """The words of the object's own fields."""
         start = self._word(2)
         return self.plan.bodies[start : start + self._word(3)]
+
+    @property
+    def description(self) -> str:
+        """The object's label; empty where it has none."""
+        return self.plan.description(self.row)
 
     def _part(self, ask: Callable[..., Any], *which: Which) -> Any:
         """A part of the object, or None where it has none."""

@@ -106,6 +106,7 @@ class Cases(unittest.TestCase):
         self.assertEqual(calls.chars(text), label.tobytes())
         self.assertEqual([found.row for found in plan.find(text)], rows)
         for each in plan.objects[:40]:
+            self.assertEqual(each.description == text, each.row in rows)
             given = calls.text(plan._contents, plan._bodies, each.row)
             self.assertEqual(each.text is None, given.number != 0)
             if given.number == 0:

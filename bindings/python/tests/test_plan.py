@@ -114,6 +114,7 @@ class Refusals(unittest.TestCase):
         for row in (len(plan.objects), -1, 1 << 30, 1 << 32, (1 << 32) + 3, 1 << 80):
             self.assertEqual(self.number_of(plan.text, row), no_row)
             self.assertEqual(self.number_of(plan.extent, row), no_row)
+            self.assertEqual(self.number_of(plan.description, row), no_row)
             self.assertEqual(self.number_of(plan.paint, row, Which.LINE), no_row)
         self.assertEqual(self.number_of(plan.text, 0), no_part)
         for which in (3, -1, 1 << 32):
@@ -164,7 +165,17 @@ class Labels(unittest.TestCase):
             label = array("H", units).tobytes().decode(calls.ENCODING, "surrogatepass")
             self.assertEqual([found.row for found in plan.find(label)], [0])
             self.assertEqual(plan.find(label + "\0"), [])
+            self.assertEqual((plan.objects[0].description, plan.description(0)), (label, label))
             self.assertEqual(Plan.read(plan.write()), plan)
+
+    def test_an_object_is_found_by_its_description(self):
+        for name, file in committed.PLANS.items():
+            if name != "cut.jdr":
+                plan = Plan.read(file)
+                labels = [each.description for each in plan.objects]
+                for label in {*labels, "no such label"}:
+                    rows = [row for row, own in enumerate(labels) if own == label]
+                    self.assertEqual([found.row for found in plan.find(label)], rows)
 
     def test_a_pair_is_one_character(self):
         self.assertEqual([found.row for found in self.described([0xD83D, 0xDD27]).find("🔧")], [0])

@@ -53,6 +53,8 @@ fn measure(name: &str, file: &[u8]) -> Result<(), jdr::Refused> {
     line("paint", c, time(|| black_box(plan).paint(1, Which::Line)));
     let c = time(|| calls::text(black_box(contents), bodies, 1));
     line("text", c, time(|| black_box(plan).text(1).map(|text| text.shown().to_string())));
+    let c = time(|| calls::description(black_box(contents), bodies, 1));
+    line("description", c, time(|| black_box(plan).description(1).map(|own| own.to_string())));
     let c = time(|| calls::extent(black_box(contents), bodies, 1));
     line("box", c, time(|| black_box(plan).extent(1)));
     let walk =

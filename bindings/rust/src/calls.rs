@@ -42,6 +42,15 @@ pub struct TextAnswer {
     pub text_length: u32,
 }
 
+/// A number, and where in the bodies the chars of a description stand, one a word.
+#[repr(C)]
+#[derive(Clone, Copy, Debug, Default, PartialEq, Eq)]
+pub struct DescriptionAnswer {
+    pub number: u32,
+    pub start: u32,
+    pub length: u32,
+}
+
 /// A number, and the box around an outline: the least x and y, then the greatest x and y.
 #[repr(C)]
 #[derive(Clone, Copy, Debug, Default, PartialEq)]
@@ -54,7 +63,7 @@ pub struct BoxAnswer {
 }
 
 mod c {
-    use super::{Answer, BoxAnswer, PaintAnswer, TextAnswer};
+    use super::{Answer, BoxAnswer, DescriptionAnswer, PaintAnswer, TextAnswer};
 
     // A run is a pointer and a length.
     extern "C" {
@@ -121,6 +130,13 @@ mod c {
             bodies_len: usize,
             row: u32,
         ) -> TextAnswer;
+        pub fn jdr_description(
+            contents: *const u32,
+            contents_len: usize,
+            bodies: *const u32,
+            bodies_len: usize,
+            row: u32,
+        ) -> DescriptionAnswer;
         pub fn jdr_box(
             contents: *const u32,
             contents_len: usize,
@@ -186,6 +202,11 @@ pub fn paint(contents: &[u32], bodies: &[u32], row: u32, which: u32) -> PaintAns
 /// Where the chars of a row's text stand.
 pub fn text(contents: &[u32], bodies: &[u32], row: u32) -> TextAnswer {
     call!(jdr_text, &contents, &bodies, row)
+}
+
+/// Where the chars of a row's description stand.
+pub fn description(contents: &[u32], bodies: &[u32], row: u32) -> DescriptionAnswer {
+    call!(jdr_description, &contents, &bodies, row)
 }
 
 /// The box around a row's outline: `jdr_box`, whose name is a word of the language here.

@@ -1,7 +1,7 @@
 //! A plan that owns its memory.
 
 use crate::calls::{self, Answer};
-use crate::parts::{Extent, Paint, Text, Which};
+use crate::parts::{Chars, Extent, Paint, Text, Which};
 use crate::refused::Refused;
 use crate::table_ref::{Entries, Object, Room, TableRef};
 use alloc::vec;
@@ -83,6 +83,11 @@ impl Table {
     /// [`TableRef::text`].
     pub fn text(&self, row: u32) -> Result<Text<'_>, Refused> {
         self.view().text(row)
+    }
+
+    /// [`TableRef::description`].
+    pub fn description(&self, row: u32) -> Result<Chars<'_>, Refused> {
+        self.view().description(row)
     }
 
     /// [`TableRef::extent`].

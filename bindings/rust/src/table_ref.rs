@@ -1,7 +1,7 @@
 //! A plan as a table in memory that is lent, and the objects in it. Nothing here allocates.
 
 use crate::calls;
-use crate::parts::{Extent, Kind, Paint, Text, Which};
+use crate::parts::{Chars, Extent, Kind, Paint, Text, Which};
 use crate::refused::{Reason, Refused};
 
 /// The words of a row of the contents: kind, row of the parent, start and length of the body.
@@ -152,6 +152,12 @@ impl<'a> TableRef<'a> {
         Refused::unless(given.number, || Text::of(self.bodies, given))
     }
 
+    /// The description of an object, which is its label; empty below version 1.2. Refused: no such row.
+    pub fn description(self, row: u32) -> Result<Chars<'a>, Refused> {
+        let given = calls::description(self.contents, self.bodies, row);
+        Refused::unless(given.number, || Chars::at(self.bodies, given.start, given.length))
+    }
+
     /// The box around a path, or a text along a path. Refused: no such row, no path, a coordinate is not a number.
     pub fn extent(self, row: u32) -> Result<Extent, Refused> {
         let given = calls::extent(self.contents, self.bodies, row);
@@ -221,6 +227,11 @@ impl<'a> Object<'a> {
     /// The words of its own fields.
     pub fn body(self) -> &'a [u32] {
         &self.table.bodies[self.word(2) as usize..][..self.word(3) as usize]
+    }
+
+    /// Its label, empty where it has none.
+    pub fn description(self) -> Chars<'a> {
+        self.table.description(self.row).expect("an object has a row of its table")
     }
 
     /// Its line, fill or text paint, if it has one.

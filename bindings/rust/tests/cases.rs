@@ -123,6 +123,8 @@ fn listed(good: TableRef, label: &[u16], name: &str) {
     assert_eq!(found.len(), answer.rows as usize, "{name}");
     assert!(found.map(|object| object.row()).eq(entries[..answer.rows as usize].iter().copied()), "{name}");
     for object in good.objects().take(40) {
+        let own: Vec<u16> = object.description().units().collect();
+        assert_eq!(own == label, entries[..answer.rows as usize].contains(&object.row()), "{name}");
         let text = calls::text(good.contents(), good.bodies(), object.row());
         assert_eq!(number(&good.text(object.row())).0, text.number, "{name}");
         assert_eq!(object.text().is_some(), matches!(object.kind(), Kind::Text | Kind::TextPath));

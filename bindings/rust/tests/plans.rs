@@ -62,6 +62,7 @@ fn questions_are_refused() {
     for row in [table.view().len() as u32, 1 << 30, u32::MAX] {
         assert_eq!(table.text(row).map_err(|refused| refused.reason), Err(Reason::NoRow));
         assert_eq!(table.extent(row).map_err(|refused| refused.number()), Err(6));
+        assert_eq!(table.description(row).map_err(|refused| refused.reason), Err(Reason::NoRow));
         assert_eq!(table.paint(row, Which::Fill).map_err(|refused| refused.reason), Err(Reason::NoRow));
         assert_eq!(table.view().object(row), None);
     }
@@ -124,6 +125,7 @@ fn every_char_can_be_asked_for() {
             let table = described(&units);
             assert!(table.view().find_chars(&units).map(|object| object.row()).eq([0]));
             assert_eq!(table.view().find_chars(&units[..2]).count(), 0);
+            assert!(table.objects().next().is_some_and(|outer| outer.description().units().eq(units)));
         }
     }
     assert_eq!(described(&[0xD83D, 0xDD27]).find("🔧").len(), 1);
