@@ -1,4 +1,4 @@
-"""Draws a plan as SVG, from its table: outlines in their colours and line widths, texts, and a box around each group: draw.py FILE > PICTURE.
+"""Draws a plan as SVG, from its table: outlines in their colours and line widths, texts, a box around each group, and the labels: draw.py FILE > PICTURE.
 
 Of a gradient the first colour is drawn; fonts, dashes and markers are not. An outline with a coordinate that is no number, or infinite, is left out, with a
 comment that says so.
@@ -106,12 +106,23 @@ class Picture:
 
     def draw_bitmap(self, found):
         matrix = fields.bitmap_of(found)
-        if not all(map(math.isfinite, matrix)):
-            return self.left_out(found)
-        self.reach(found, [matrix[4:]])
         # its origin is the bottom left corner
+        a, b, c, d, e, f = matrix
+        corners = [(a * x + c * y + e, b * x + d * y + f) for x in (0, BITMAP) for y in (0, -BITMAP)]
+        if not all(map(math.isfinite, sum(corners, ()))):
+            return self.left_out(found)
+        self.reach(found, corners)
         place = f'y="-{BITMAP}" width="{BITMAP}" height="{BITMAP}"'
         self.lines.append(f'<rect {matrix_of(matrix)} {place} fill="#ccc" stroke="#666" stroke-width="0.5"/>')
+
+    def draw_label(self, found):
+        """The object's description: above its left end, and a group's below it."""
+        label, points = found.description, self.points[found.row]
+        if label and points:
+            xs, ys = zip(*points)
+            below = found.kind is Kind.GROUP
+            place = f'x="{number(min(xs))}" y="{number(max(ys) + 7 if below else min(ys) - 3)}"'
+            self.lines.append(f'<text class="label" {place} font-size="5" fill="#38c">{printable(label)}</text>')
 
     def draw_box(self, group):
         """A box around all that a group holds."""
@@ -130,10 +141,12 @@ class Picture:
         for found in self.plan.objects:
             if found.kind is Kind.GROUP:
                 self.draw_box(found)
+            self.draw_label(found)
         xs, ys = zip(*(self.points[0] or [(0, 0)]))
         left, top = min(xs) - MARGIN, min(ys) - MARGIN
         place = " ".join(map(number, (left, top, max(xs) + MARGIN - left, max(ys) + MARGIN - top)))
-        return "\n".join([f'<svg xmlns="http://www.w3.org/2000/svg" viewBox="{place}" font-family="sans-serif">', *self.lines, "</svg>", ""])
+        root = f'<svg xmlns="http://www.w3.org/2000/svg" viewBox="{place}" font-family="sans-serif" style="background: white">'
+        return "\n".join([root, *self.lines, "</svg>", ""])
 
 
 def main():

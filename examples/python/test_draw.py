@@ -74,8 +74,11 @@ class Drawn(unittest.TestCase):
                     drawn = [found for found in plan.objects if found.kind is not Kind.GROUP]
                     along = sum(found.kind is Kind.TEXT_PATH for found in drawn)
                     boxes = len(picture.findall(f"{SVG}rect[@stroke-dasharray]"))
-                    self.assertGreaterEqual(len(picture) - boxes + left_out, len(drawn))
-                    self.assertLessEqual(len(picture) - boxes + left_out, len(drawn) + along)
+                    labels = picture.findall(f"{SVG}text[@class='label']")
+                    self.assertLessEqual(len(labels), sum(found.description != "" for found in plan.objects))
+                    shapes = len(picture) - boxes - len(labels) + left_out
+                    self.assertGreaterEqual(shapes, len(drawn))
+                    self.assertLessEqual(shapes, len(drawn) + along)
 
 
 if __name__ == "__main__":
