@@ -105,7 +105,7 @@ class Plan:
         return room.tobytes()
 
     def write(self) -> bytes:
-        """The bytes of the plan's file: those that it was read from."""
+        """The bytes of the plan's file: those that it was read from, with each true flag made 1."""
         return self._written(calls.write)
 
     def write_sheet(self) -> bytes:

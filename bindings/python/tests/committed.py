@@ -8,6 +8,7 @@ REPOSITORY = Path(__file__).resolve().parents[3]
 CASES = REPOSITORY / "crates/run_cases"
 HEADER = (REPOSITORY / "include/jdr.h").read_text()
 PLANS = {path.name: path.read_bytes() for path in sorted((REPOSITORY / "examples/plans").glob("*.jdr"))}
+SHEETS = {path.name: path.read_bytes() for path in sorted((REPOSITORY / "examples/plans").glob("*.sheet"))}
 
 FILL = 0xA5
 _FACTOR = 16_777_619
@@ -34,6 +35,11 @@ def filled(typecode, count):
     """Lent memory as it is before a call: all bytes are 0xA5."""
     size = array(typecode).itemsize
     return array(typecode, (int.from_bytes(bytes((FILL,)) * size, "little"),)) * count
+
+
+def true_made_one(written, file):
+    """Whether the bytes written are the file with each true flag made 1: where they differ, a byte that is not 0 became 1."""
+    return len(written) == len(file) and all(new == old or (new == 1 and old > 1) for new, old in zip(written, file))
 
 
 def hashed(run, used=None):

@@ -31,39 +31,54 @@ class Cases(unittest.TestCase):
     def each(self, call, run):
         """Runs each case of a call, and names those that fail."""
         cases = list(committed.of(call))
-        self.assertGreater(len(cases), 100, "there are fewer cases than there were")
+        self.assertGreater(len(cases), 80, "there are fewer cases than there were")
         for name, data, groups in cases:
             with self.subTest(name):
                 run(data, groups)
 
-    def read_group(self, file, contents_room, bodies_room):
+    def read_group(self, call, source, contents_room, bodies_room):
         contents, bodies = committed.filled("I", contents_room), committed.filled("I", bodies_room)
-        answer = calls.read(file, contents, bodies)
+        answer = call(source, contents, bodies)
         rows, words = (answer.rows, answer.words) if answer.number == 0 else (0, 0)
         return answer, f"{counts(answer)} {committed.hashed(contents, 4 * rows)} {committed.hashed(bodies, words)}"
 
-    def read(self, file, groups):
-        answer, group = self.read_group(file, 37452, 65536)
+    def read_by(self, call, source, groups):
+        """A call that reads bytes into a table, in all rooms."""
+        answer, group = self.read_group(call, source, 37452, 65536)
         made = [group]
         if answer.number == 0:
             r, w = answer.rows, answer.words
-            made += [self.read_group(file, *rooms)[1] for rooms in ((4 * r + 3, w), (4 * r - 1, w), (4 * r, w - 1))]
+            made += [self.read_group(call, source, *rooms)[1] for rooms in ((4 * r + 3, w), (4 * r - 1, w), (4 * r, w - 1))]
         self.assertEqual(made, groups)
-        self.read_plan(file, *map(int, groups[0].split()[:4]))
 
-    def read_plan(self, file, number, offset, rows, words):
-        (refused, at), plan = outcome(Plan.read, file)
+    def plan_by(self, read, source, number, offset, rows, words):
+        """The plan of the same bytes, or None where they are refused in the same way."""
+        (refused, at), plan = outcome(read, source)
         self.assertEqual(refused, number)
         if plan is None:
             self.assertEqual(at, offset)
-            return
+            return None
         self.assertEqual((len(plan.objects), len(plan.contents), len(plan.bodies)), (rows, 4 * rows, words))
-        self.assertEqual((plan.check(), plan.write()), (len(file), file))
         self.assertEqual(Plan(plan.contents, plan.bodies), plan)
+        return plan
 
-    def write_group(self, contents, bodies, room):
+    def read(self, file, groups):
+        self.read_by(calls.read, file, groups)
+        plan = self.plan_by(Plan.read, file, *map(int, groups[0].split()[:4]))
+        if plan is not None:
+            self.assertEqual(plan.check(), len(file))
+            self.assertTrue(committed.true_made_one(plan.write(), file))
+            self.assertEqual(Plan.read(plan.write()), plan)
+
+    def sheet_read(self, sheet, groups):
+        self.read_by(calls.sheet_read, sheet, groups)
+        plan = self.plan_by(Plan.read_sheet, sheet, *map(int, groups[0].split()[:4]))
+        if plan is not None:
+            self.assertEqual(plan.write_sheet(), sheet)
+
+    def write_group(self, contents, bodies, room, call=calls.write):
         file = committed.filled("B", room)
-        answer = calls.write(contents, bodies, file)
+        answer = call(contents, bodies, file)
         return answer, f"{counts(answer)} {committed.hashed(file, answer.offset if answer.number == 0 else 0)}"
 
     def check_and_write(self, data, groups):
@@ -77,6 +92,18 @@ class Cases(unittest.TestCase):
         self.assertEqual(refused, answer.number)
         if plan is not None:
             self.assertEqual(Plan.read(plan.write()), plan)
+
+    def sheet_write(self, data, groups):
+        contents, bodies, _ = committed.table_of(data)
+        answer, group = self.write_group(contents, bodies, 340_000, calls.sheet_write)
+        made = [group]
+        if answer.number == 0:
+            made += [self.write_group(contents, bodies, room, calls.sheet_write)[1] for room in (answer.offset, answer.offset - 1)]
+        self.assertEqual(made, groups)
+        (refused, _), plan = outcome(Plan, contents, bodies)
+        self.assertEqual(refused, answer.number)
+        if plan is not None:
+            self.assertEqual(Plan.read_sheet(plan.write_sheet()), plan)
 
     def list_group(self, contents, bodies, label, room):
         entries = committed.filled("I", room)
@@ -137,6 +164,19 @@ class Cases(unittest.TestCase):
                 (number, _), given = outcome(plan.extent, row)
                 self.assertEqual((number, given and sides(given)), (box.number, None if box.number else sides(box)))
 
+    def descriptions(self, data, groups):
+        contents, bodies, rows = committed.table_of(data)
+        answers = [(row, calls.description(contents, bodies, row)) for row in rows]
+        self.assertEqual([f"{row}: {answer.number} {answer.start} {answer.length}" for row, answer in answers], groups)
+        if calls.check(contents, bodies).number == 0:
+            plan = Plan(contents, bodies)
+            for row, answer in answers:
+                (number, _), given = outcome(plan.description, row)
+                self.assertEqual(number, answer.number)
+                if number == 0:
+                    chars = bodies[answer.start : answer.start + answer.length]
+                    self.assertEqual(array("H", calls.chars(given)).tolist(), chars.tolist())
+
     def test_read(self):
         self.each("read", self.read)
 
@@ -145,6 +185,13 @@ class Cases(unittest.TestCase):
 
     def test_list_and_questions(self):
         self.each("list", self.list_and_questions)
+
+    def test_sheets(self):
+        self.each("sheet_write", self.sheet_write)
+        self.each("sheet_read", self.sheet_read)
+
+    def test_descriptions(self):
+        self.each("description", self.descriptions)
 
     def test_boxes(self):
         self.each("box", self.boxes)

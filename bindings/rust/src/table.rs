@@ -55,7 +55,7 @@ impl Table {
         TableRef::accepted(&self.contents, &self.bodies)
     }
 
-    /// The bytes of the plan's file: those that it was read from.
+    /// The bytes of the plan's file: those that it was read from, with each true flag made 1.
     pub fn write(&self) -> Vec<u8> {
         self.view().write()
     }

@@ -13,7 +13,12 @@ fn every_plan_comes_back() {
             continue;
         }
         let table = Table::read(&file).unwrap_or_else(|refused| panic!("{name}: {refused}"));
-        assert_eq!(table.write(), file, "{name}");
+        // a converter's plan has 255 for true, and is the other one with each true flag made 1
+        let written = if name == "converter.jdr" { plan("bays.jdr") } else { file };
+        assert_eq!(table.write(), written, "{name}");
+        let sheet = plan(&name.replace(".jdr", ".sheet"));
+        assert_eq!(table.write_sheet(), sheet, "{name}");
+        assert_eq!(Table::read_sheet(&sheet).as_ref(), Ok(&table), "{name}");
         assert_eq!(table.view().to_table(), table);
         let (contents, bodies) = table.clone().into_words();
         assert_eq!(Table::from_words(contents, bodies), Ok(table), "{name}");
