@@ -27,7 +27,8 @@ class Readme(unittest.TestCase):
         self.assertIn(shown(self.printed("python/first.py", "plans/floor.jdr")), README)
 
     def test_what_the_programs_print(self):
-        self.assertIn(shown(self.printed("python/uptime.py", "plans/floor.jdr", "lists/gaps.csv", "168")), README)
+        for name in ("more", "gaps"):
+            self.assertIn(shown(self.printed("python/uptime.py", "plans/floor.jdr", f"lists/{name}.csv", "168")), README)
         self.assertIn(shown(self.printed("python/plan.py", "plans/hall.jdr", "machine")), README)
 
 

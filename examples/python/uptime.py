@@ -1,8 +1,13 @@
 """Prints the uptime over the tools of a plan, from a list of hours run: uptime.py PLAN LIST HOURS, where HOURS is how long the period was.
 
-The list is CSV with the columns label and hours. A label without hours is no tool: a bay, a door. A tool is a label of the plan, however many objects have it.
-A label that is on the plan and not in the list is named, and counted as a tool that did not run, so that the figure can only be too low; one that is in the list
-and not on the plan is named and not counted. Exit status 1 where a label was named; 2, with no figure, where the plan is refused or the list is bad.
+The list is CSV with the columns label and hours. The hours `-` say that a label is no tool: a bay, a door. A tool is a label of the plan,
+however many objects have it; objects without a label are none.
+
+A figure never leaves a tool of the plan out, and never puts hours in place of those that are not known. So there is no figure where the plan
+is refused, and none where a label of the plan is not in the list: it may be a tool. A label that is in the list and not on the plan is not
+counted, and the figure's own line says that there is one. Every label that is missing on either side is named.
+
+Exit status 1 where a label was named; 2 where the plan is refused or the list is bad.
 """
 
 import csv
@@ -10,6 +15,8 @@ import math
 import sys
 
 import jdr
+
+NO_TOOL = "-"
 
 
 class BadList(ValueError):
@@ -30,12 +37,25 @@ def hours_by_label(lines, period):
         if label in hours:
             raise BadList(f"{where} has a label for the second time")
         try:
-            hours[label] = float(run) if run else None
+            hours[label] = None if run == NO_TOOL else float(run)
         except ValueError:
             raise BadList(f"{where} has hours that are no number") from None
-        if run and not 0 <= hours[label] <= period:
+        if run != NO_TOOL and not 0 <= hours[label] <= period:
             raise BadList(f"{where} has hours that are not within the period")
     return hours
+
+
+def figure(labels, hours, unplaced, period):
+    """The first line: the uptime, with what it is over, or why there is none."""
+    unlisted = sum(label not in hours for label in labels)
+    if unlisted:
+        return f"no figure: labels of the plan that are not in the list: {unlisted} of {len(labels)}"
+    run = [hours[label] for label in labels if hours[label] is not None]
+    if not run:
+        return "no figure: no label of the plan is a tool"
+    line = f"uptime {100 * sum(run) / (len(run) * period):.1f} % over the {len(run)} tools of the plan in {period:g} hours"
+    others = f"; labels of the list that are not on the plan: {len(unplaced)}" if unplaced else ""
+    return f"{line} (labels that are no tools: {len(labels) - len(run)}{others})"
 
 
 def report(plan, hours, period):
@@ -45,10 +65,9 @@ def report(plan, hours, period):
     labels.pop("", None)
     unlisted = [label for label in labels if label not in hours]
     unplaced = [label for label in hours if label not in labels]
-    run = [hours.get(label, 0) for label in labels if hours.get(label, 0) is not None]
-    lines = [f"uptime {100 * sum(run) / (len(run) * period):.1f} % of {len(run)} tools over {period:g} hours" if run else "no tools, no figure"]
-    lines += [f"on the plan, not in the list: {label} (counted with 0 hours)" for label in unlisted]
-    lines += [f"in the list, not on the plan: {label} (not counted)" for label in unplaced]
+    lines = [figure(labels, hours, unplaced, period)]
+    lines += [f"on the plan, not in the list: {label}" for label in unlisted]
+    lines += [f"in the list, not on the plan: {label}" for label in unplaced]
     return lines, not unlisted and not unplaced
 
 
