@@ -66,10 +66,10 @@ impl Call {
         }
     }
 
-    /// Whether it is measured on these plans: those for the box have nothing else to show than what it costs beside a check.
+    /// Whether it is measured on these plans: those for the box have little else to show than what it costs beside a check.
     pub fn is_measured(self, plans: &str) -> bool {
         match self {
-            Call::Check => true,
+            Call::Check | Call::Description => true,
             Call::Box => plans == OUTLINE,
             _ => plans != OUTLINE,
         }
