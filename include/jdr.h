@@ -101,7 +101,7 @@ enum {
     JDR_TEXT_PATH = 5            /* a text along a path */
 };
 
-/* Which paint to ask jdr_paint for. */
+/* Which paint to ask jdr_paint for. Any other number is a paint that no object has (JDR_NO_PART). */
 enum {
     JDR_LINE_PAINT = 0,          /* of a path */
     JDR_FILL_PAINT = 1,          /* of a path */
@@ -135,18 +135,19 @@ struct jdr_color {
     float c[5];
 };
 
-/* A paint. The second colour is transparent, and place is 0, where the form is plain; after a refusal both colours are transparent. */
+/* A paint. Where the form is plain the second colour is transparent and place is 0. A refusal is plain, with both colours transparent. */
 struct jdr_paint {
     uint32_t number, form, place;
     struct jdr_color first, second;
 };
 
-/* Where two texts stand in the bodies: the LaTeX alternative and the text itself. Show the alternative if its length is not 0, else the text. */
+/* Where two texts stand in the bodies: the LaTeX alternative and the text itself. Show the alternative if its length is not 0, else the text.
+ * Without an alternative its start and length are 0; after a refusal all four are 0. */
 struct jdr_text {
     uint32_t number, alternative_start, alternative_length, text_start, text_length;
 };
 
-/* Where a description stands in the bodies. */
+/* Where a description stands in the bodies. After a refusal, and below version 1.2, start and length are 0. */
 struct jdr_description {
     uint32_t number, start, length;
 };
@@ -165,7 +166,8 @@ typedef struct jdr_text jdr_text_t;
 typedef struct jdr_description jdr_description_t;
 typedef struct jdr_box jdr_box_t;
 
-/* Reads a file into a table. The example above shows how to ask for the sizes first. In a flag any byte but 0 is true; its word is 1.
+/* Reads a file into a table. The example above shows how to ask for the sizes first. In a flag any byte but 0 is true; its word is 1. Room for
+ * contents is counted in whole rows.
  * Answers JDR_ACCEPTED with the file's length as the offset and the counts; or JDR_TOO_LONG to JDR_BODIES_TOO_SHORT, never JDR_BAD_FLAG.
  *
  *     struct jdr_answer read = jdr_read(file, file_len, contents, contents_len, bodies, bodies_len);
