@@ -22,5 +22,6 @@ pub mod random;
 pub mod read;
 pub mod sheet;
 pub mod table;
+pub mod uptime;
 pub mod version;
 pub mod write;

@@ -7,7 +7,7 @@ mod compare;
 #[cfg(feature = "linked")]
 mod library;
 
-use second::{examples, lister, make, read, table};
+use second::{examples, lister, make, read, table, uptime};
 use std::fs;
 use std::path::Path;
 use std::process::ExitCode;
@@ -16,6 +16,7 @@ const USAGE: &str = "\
 second read FILE                         the answer, and the lister's lines of an accepted file
 second plan FILE [LABEL]                 what the programs in examples/ print for a plan or a sheet
 second plan store FILE SHEET             the same where they store a plan's sheet
+second uptime FILE LIST HOURS            what the uptime program prints
 second make-examples DIR                 their plans and sheets
 second make-cases DIR [SEED]             cases of all calls
 second compare [--seconds N] [--seed S] [--out DIR] [--trace FILE]
@@ -32,6 +33,7 @@ fn main() -> ExitCode {
         ["plan", file] => plan(file, None),
         ["plan", file, label] => plan(file, Some(label)),
         ["plan", "store", file, sheet] => store(file, sheet),
+        ["uptime", file, list, hours] => uptime_of(file, list, hours),
         ["make-examples", folder] => make_examples(Path::new(folder)),
         ["make-cases", folder] => make_cases(folder, 1),
         ["make-cases", folder, seed] => number(seed).and_then(|seed| make_cases(folder, seed)),
@@ -83,6 +85,14 @@ fn store(plan: &str, name: &str) -> Result<ExitCode, String> {
             Ok(ExitCode::SUCCESS)
         }
     }
+}
+
+fn uptime_of(file: &str, list: &str, hours: &str) -> Result<ExitCode, String> {
+    let file = fs::read(file).map_err(|_| "the file cannot be read")?;
+    let list = fs::read_to_string(list).map_err(|_| "the list cannot be read")?;
+    let (lines, status) = uptime::lines(&file, &list, hours.parse().map_err(|_| "no hours")?);
+    print!("{lines}");
+    Ok(ExitCode::from(status))
 }
 
 fn make_examples(folder: &Path) -> Result<ExitCode, String> {

@@ -88,7 +88,7 @@ fn deepest(version: Version) -> Vec<Plan> {
 type Use = (&'static str, fn(&Plan));
 
 /// Each call, and the ways to make it that matter.
-const CALLS: [Use; 9] = [
+const CALLS: [Use; 10] = [
     ("jdr_read", |plan| {
         let (mut contents, mut bodies) =
             (vec![0; plan.table.contents.len()], vec![0; plan.table.bodies.len()]);
@@ -136,6 +136,13 @@ const CALLS: [Use; 9] = [
     }),
     ("jdr_text", |plan| {
         black_box(library::text(
+            given(&plan.table.contents),
+            given(&plan.table.bodies),
+            plan.table.rows() - 1,
+        ));
+    }),
+    ("jdr_description", |plan| {
+        black_box(library::description(
             given(&plan.table.contents),
             given(&plan.table.bodies),
             plan.table.rows() - 1,

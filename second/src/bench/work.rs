@@ -7,7 +7,7 @@ use second::generate::chars;
 use second::generate::sheets::sheet as sheet_of;
 use second::model::{Chars, Drawing};
 use second::table::{self, Table};
-use second::{check, direct, extent, list, sheet, write};
+use second::{ask, check, direct, extent, list, sheet, write};
 use std::hint::black_box;
 
 #[derive(Clone, Copy)]
@@ -16,6 +16,8 @@ pub enum Call {
     Check,
     /// Of the path that a plan of `plans::OUTLINE` has.
     Box,
+    /// Of the last row.
+    Description,
     Write,
     /// With a label that some rows have.
     List,
@@ -26,11 +28,12 @@ pub enum Call {
 }
 
 impl Call {
-    const ALL: [Call; 8] = [
+    const ALL: [Call; 9] = [
         Call::Read,
         Call::SheetRead,
         Call::Check,
         Call::Box,
+        Call::Description,
         Call::Write,
         Call::SheetWrite,
         Call::List,
@@ -41,6 +44,7 @@ impl Call {
     pub fn linked() -> impl Iterator<Item = Call> {
         Call::ALL.into_iter().filter(|call| match call {
             Call::Box => cfg!(feature = "box"),
+            Call::Description => cfg!(feature = "description"),
             Call::Read | Call::Check | Call::Write => true,
             Call::List | Call::ListEmpty => cfg!(feature = "list"),
             Call::SheetRead => cfg!(feature = "sheet_read"),
@@ -53,6 +57,7 @@ impl Call {
             Call::Read => "read",
             Call::Check => "check",
             Call::Box => "box",
+            Call::Description => "description",
             Call::Write => "write",
             Call::List => "list",
             Call::ListEmpty => "list-empty",
@@ -61,10 +66,10 @@ impl Call {
         }
     }
 
-    /// Whether it is measured on these plans: those for the box have nothing else to show than what it costs beside a check.
+    /// Whether it is measured on these plans: those for the box have little else to show than what it costs beside a check.
     pub fn is_measured(self, plans: &str) -> bool {
         match self {
-            Call::Check => true,
+            Call::Check | Call::Description => true,
             Call::Box => plans == OUTLINE,
             _ => plans != OUTLINE,
         }
@@ -158,6 +163,18 @@ impl Plan {
         Answer::refused(black_box(answer).number, 0)
     }
 
+    fn description(&mut self, who: Who) -> Answer {
+        let (contents, bodies) = (&self.table.contents, &self.table.bodies);
+        let row = self.table.rows() - 1;
+        let answer = match who {
+            Who::Library => library::description(given(contents), given(bodies), row)
+                .expect("only measured where it is linked"),
+            Who::Direct => direct::description(contents, bodies, row),
+            Who::Plain => ask::description(check::good(contents, bodies).as_ref(), row),
+        };
+        Answer::refused(black_box(answer).number, 0)
+    }
+
     fn write(&mut self, who: Who) -> Answer {
         let (contents, bodies, file) = (&self.table.contents, &self.table.bodies, &mut self.output);
         match who {
@@ -228,6 +245,7 @@ impl Work {
                 Call::Read => plan.read(who),
                 Call::Check => plan.check(who),
                 Call::Box => plan.extent(who),
+                Call::Description => plan.description(who),
                 Call::Write => plan.write(who),
                 Call::List => plan.list(who, false),
                 Call::ListEmpty => plan.list(who, true),

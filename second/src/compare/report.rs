@@ -13,12 +13,13 @@ pub enum Call {
     Box,
     Paint,
     Text,
+    Description,
     SheetWrite,
     SheetRead,
 }
 
 impl Call {
-    const ALL: [Call; 9] = [
+    const ALL: [Call; 10] = [
         Call::Read,
         Call::Check,
         Call::Write,
@@ -26,6 +27,7 @@ impl Call {
         Call::Box,
         Call::Paint,
         Call::Text,
+        Call::Description,
         Call::SheetWrite,
         Call::SheetRead,
     ];
@@ -39,6 +41,7 @@ impl Call {
             Call::Box => "box",
             Call::Paint => "paint",
             Call::Text => "text",
+            Call::Description => "description",
             Call::SheetWrite => "sheet_write",
             Call::SheetRead => "sheet_read",
         }

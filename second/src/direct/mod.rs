@@ -1,8 +1,9 @@
-//! Reading, checking, writing, listing, the box question and storing as a program does it that cares for time: from bytes to words and
+//! Reading, checking, writing, listing, the questions about a box and a description, and storing as a program does it that cares for time: from bytes to words and
 //! back, without the drawing in between and without memory of its own. A first walk judges and counts before anything is stored, so a
 //! refusal stores nothing. The plain modules say what is right; this one is measured beside the library, and `tests/direct.rs`,
-//! `tests/direct_boxes.rs` and `tests/direct_sheets.rs` hold it to the plain answers.
+//! `direct_boxes.rs`, `direct_descriptions.rs` and `direct_sheets.rs` hold it to the plain answers.
 
+mod description;
 mod extent;
 mod from_file;
 mod from_table;
@@ -14,6 +15,7 @@ mod walk;
 use crate::answer::Answer;
 use crate::table::ROW;
 use crate::version::LONGEST_FILE;
+pub use description::description;
 pub use extent::extent;
 use from_file::FromFile;
 use from_table::FromTable;

@@ -2,6 +2,7 @@
 
 pub mod boxes;
 mod broken;
+pub mod descriptions;
 pub mod lists;
 pub mod reads;
 pub mod sheets;
@@ -17,11 +18,12 @@ use std::path::Path;
 type Make = fn(u64) -> Vec<Case>;
 
 /// Each call by the name that its cases have, in the order in which they are run.
-pub const CALLS: [(&str, Make); 6] = [
+pub const CALLS: [(&str, Make); 7] = [
     ("read", reads::cases),
     ("table", tables::cases),
     ("list", lists::cases),
     ("box", boxes::cases),
+    ("description", descriptions::cases),
     ("sheet_write", sheets::write_cases),
     ("sheet_read", sheets::read_cases),
 ];
