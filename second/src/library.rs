@@ -1,8 +1,7 @@
 //! The linked library: the C functions of the interface. A call that has a feature of its own is None without it, since a library
 //! that lacks the call could not be linked.
 
-use second::answer::{Answer, BoxAnswer, PaintAnswer, TextAnswer};
-use second::session::LentSession;
+use second::answer::{Answer, BoxAnswer, DescriptionAnswer, PaintAnswer, TextAnswer};
 
 #[link(name = "jdr_c", kind = "static")]
 extern "C" {
@@ -66,6 +65,15 @@ extern "C" {
         row: u32,
     ) -> TextAnswer;
 
+    #[cfg(feature = "description")]
+    fn jdr_description(
+        contents: *const u32,
+        contents_len: usize,
+        bodies: *const u32,
+        bodies_len: usize,
+        row: u32,
+    ) -> DescriptionAnswer;
+
     #[cfg(feature = "sheet_write")]
     fn jdr_sheet_write(
         contents: *const u32,
@@ -85,15 +93,6 @@ extern "C" {
         bodies: *mut u32,
         bodies_len: usize,
     ) -> Answer;
-
-    #[cfg(feature = "session")]
-    fn jdr_session_open(session: *mut LentSession) -> Answer;
-
-    #[cfg(feature = "session")]
-    fn jdr_session_piece(session: *mut LentSession, bytes: *const u8, bytes_len: usize) -> Answer;
-
-    #[cfg(feature = "session")]
-    fn jdr_session_verdict(session: *mut LentSession) -> Answer;
 }
 
 /// A run that is lent for reading: a pointer and a length in elements.
@@ -163,6 +162,16 @@ pub fn text(_: Given<u32>, _: Given<u32>, _row: u32) -> Option<TextAnswer> {
     None
 }
 
+#[cfg(feature = "description")]
+pub fn description(contents: Given<u32>, bodies: Given<u32>, row: u32) -> Option<DescriptionAnswer> {
+    Some(unsafe { jdr_description(contents.0, contents.1, bodies.0, bodies.1, row) })
+}
+
+#[cfg(not(feature = "description"))]
+pub fn description(_: Given<u32>, _: Given<u32>, _row: u32) -> Option<DescriptionAnswer> {
+    None
+}
+
 #[cfg(feature = "sheet_write")]
 pub fn sheet_write(contents: Given<u32>, bodies: Given<u32>, sheet: Lent<u8>) -> Option<Answer> {
     Some(unsafe { jdr_sheet_write(contents.0, contents.1, bodies.0, bodies.1, sheet.0, sheet.1) })
@@ -180,35 +189,5 @@ pub fn sheet_read(sheet: Given<u8>, contents: Lent<u32>, bodies: Lent<u32>) -> O
 
 #[cfg(not(feature = "sheet_read"))]
 pub fn sheet_read(_: Given<u8>, _: Lent<u32>, _: Lent<u32>) -> Option<Answer> {
-    None
-}
-
-#[cfg(feature = "session")]
-pub fn session_open(session: &mut LentSession) -> Option<Answer> {
-    Some(unsafe { jdr_session_open(session) })
-}
-
-#[cfg(not(feature = "session"))]
-pub fn session_open(_: &mut LentSession) -> Option<Answer> {
-    None
-}
-
-#[cfg(feature = "session")]
-pub fn session_piece(session: &mut LentSession, bytes: Given<u8>) -> Option<Answer> {
-    Some(unsafe { jdr_session_piece(session, bytes.0, bytes.1) })
-}
-
-#[cfg(not(feature = "session"))]
-pub fn session_piece(_: &mut LentSession, _: Given<u8>) -> Option<Answer> {
-    None
-}
-
-#[cfg(feature = "session")]
-pub fn session_verdict(session: &mut LentSession) -> Option<Answer> {
-    Some(unsafe { jdr_session_verdict(session) })
-}
-
-#[cfg(not(feature = "session"))]
-pub fn session_verdict(_: &mut LentSession) -> Option<Answer> {
     None
 }

@@ -6,9 +6,8 @@ use second::answer::Answer;
 use second::generate::chars;
 use second::generate::sheets::sheet as sheet_of;
 use second::model::{Chars, Drawing};
-use second::session::{LentSession, Session};
 use second::table::{self, Table};
-use second::{check, direct, extent, list, sheet, write};
+use second::{ask, check, direct, extent, list, sheet, write};
 use std::hint::black_box;
 
 #[derive(Clone, Copy)]
@@ -17,6 +16,8 @@ pub enum Call {
     Check,
     /// Of the path that a plan of `plans::OUTLINE` has.
     Box,
+    /// Of the last row.
+    Description,
     Write,
     /// With a label that some rows have.
     List,
@@ -24,23 +25,15 @@ pub enum Call {
     ListEmpty,
     SheetRead,
     SheetWrite,
-    /// With no room: the file is judged and nothing is stored.
-    ReadNoRoom,
-    /// A session from opening to the verdict, given pieces of so many bytes.
-    Session(usize),
 }
 
 impl Call {
-    const ALL: [Call; 13] = [
+    const ALL: [Call; 9] = [
         Call::Read,
-        Call::ReadNoRoom,
-        Call::Session(1),
-        Call::Session(64),
-        Call::Session(512),
-        Call::Session(65_535),
         Call::SheetRead,
         Call::Check,
         Call::Box,
+        Call::Description,
         Call::Write,
         Call::SheetWrite,
         Call::List,
@@ -51,11 +44,11 @@ impl Call {
     pub fn linked() -> impl Iterator<Item = Call> {
         Call::ALL.into_iter().filter(|call| match call {
             Call::Box => cfg!(feature = "box"),
+            Call::Description => cfg!(feature = "description"),
             Call::Read | Call::Check | Call::Write => true,
             Call::List | Call::ListEmpty => cfg!(feature = "list"),
             Call::SheetRead => cfg!(feature = "sheet_read"),
             Call::SheetWrite => cfg!(feature = "sheet_write"),
-            Call::ReadNoRoom | Call::Session(_) => cfg!(feature = "session"),
         })
     }
 
@@ -64,23 +57,19 @@ impl Call {
             Call::Read => "read",
             Call::Check => "check",
             Call::Box => "box",
+            Call::Description => "description",
             Call::Write => "write",
             Call::List => "list",
             Call::ListEmpty => "list-empty",
             Call::SheetRead => "sheet-read",
             Call::SheetWrite => "sheet-write",
-            Call::ReadNoRoom => "read-no-room",
-            Call::Session(1) => "session-1",
-            Call::Session(64) => "session-64",
-            Call::Session(512) => "session-512",
-            Call::Session(_) => "session-65535",
         }
     }
 
-    /// Whether it is measured on these plans: those for the box have nothing else to show than what it costs beside a check.
+    /// Whether it is measured on these plans: those for the box have little else to show than what it costs beside a check.
     pub fn is_measured(self, plans: &str) -> bool {
         match self {
-            Call::Check => true,
+            Call::Check | Call::Description => true,
             Call::Box => plans == OUTLINE,
             _ => plans != OUTLINE,
         }
@@ -118,8 +107,6 @@ pub struct Plan {
     entries: Vec<u32>,
     sheet: Vec<u8>,
     sheet_output: Vec<u8>,
-    session: LentSession,
-    direct_session: direct::Session,
 }
 
 pub struct Work {
@@ -142,21 +129,7 @@ impl Plan {
         let (label, entries) = (frequent_label(drawing), vec![0; table.rows() as usize]);
         let sheet = sheet_of(drawing);
         let sheet_output = vec![0; sheet.len()];
-        let session = LentSession { words: [0; LentSession::WORDS] };
-        let direct_session = direct::Session::default();
-        Plan {
-            file,
-            table,
-            contents,
-            bodies,
-            output,
-            label,
-            entries,
-            sheet,
-            sheet_output,
-            session,
-            direct_session,
-        }
+        Plan { file, table, contents, bodies, output, label, entries, sheet, sheet_output }
     }
 
     fn read(&mut self, who: Who) -> Answer {
@@ -186,6 +159,18 @@ impl Plan {
             }
             Who::Direct => direct::extent(contents, bodies, 1),
             Who::Plain => extent::call(check::good(contents, bodies).as_ref(), 1),
+        };
+        Answer::refused(black_box(answer).number, 0)
+    }
+
+    fn description(&mut self, who: Who) -> Answer {
+        let (contents, bodies) = (&self.table.contents, &self.table.bodies);
+        let row = self.table.rows() - 1;
+        let answer = match who {
+            Who::Library => library::description(given(contents), given(bodies), row)
+                .expect("only measured where it is linked"),
+            Who::Direct => direct::description(contents, bodies, row),
+            Who::Plain => ask::description(check::good(contents, bodies).as_ref(), row),
         };
         Answer::refused(black_box(answer).number, 0)
     }
@@ -228,42 +213,6 @@ impl Plan {
             Who::Plain => sheet::write_call(check::good(contents, bodies).as_ref(), sheet),
         }
     }
-
-    fn read_no_room(&mut self, who: Who) -> Answer {
-        let file = &self.file;
-        let answer = match who {
-            Who::Library => library::read(given(file), lent(&mut []), lent(&mut [])),
-            Who::Direct => direct::read(file, &mut [], &mut []),
-            Who::Plain => table::read_call(file, &mut [], &mut []),
-        };
-        // 14 says that the file is good.
-        Answer { number: answer.number ^ 14, ..answer }
-    }
-
-    fn session(&mut self, who: Who, size: usize) -> Answer {
-        let pieces = self.file.chunks(size);
-        match who {
-            Who::Library => {
-                linked(library::session_open(&mut self.session));
-                for piece in pieces {
-                    linked(library::session_piece(&mut self.session, given(piece)));
-                }
-                linked(library::session_verdict(&mut self.session))
-            }
-            Who::Direct => {
-                self.direct_session.open();
-                pieces.for_each(|piece| self.direct_session.piece(piece));
-                self.direct_session.verdict()
-            }
-            Who::Plain => {
-                let mut session = Session::default();
-                for piece in pieces {
-                    session.piece(piece);
-                }
-                session.verdict()
-            }
-        }
-    }
 }
 
 /// A call of the library that is measured only where it is linked.
@@ -296,13 +245,12 @@ impl Work {
                 Call::Read => plan.read(who),
                 Call::Check => plan.check(who),
                 Call::Box => plan.extent(who),
+                Call::Description => plan.description(who),
                 Call::Write => plan.write(who),
                 Call::List => plan.list(who, false),
                 Call::ListEmpty => plan.list(who, true),
                 Call::SheetRead => plan.sheet_read(who),
                 Call::SheetWrite => plan.sheet_write(who),
-                Call::ReadNoRoom => plan.read_no_room(who),
-                Call::Session(size) => plan.session(who, size),
             };
             assert_eq!(black_box(answer).number, 0, "{} of {}", call.name(), who.name());
         }
