@@ -28,12 +28,12 @@ use Rattle.pieces.specs.EntryLaws.{none-inside, rest-around, rest-agree}
 use Rattle.pieces.specs.Verdict.{verdictOf, comes}
 use Rattle.pieces.specs.VerdictLaws.{verdict-tallied, refused-verdict}
 use Rattle.pieces.specs.Session.{standing, heldBytes, verdictNow, stopped, Going, Faulty, Within}
-use Rattle.session.specs.declared.place.Place.{Place}
-use Rattle.session.specs.declared.run.Ran.{Ran}
-use Rattle.session.specs.declared.advance.Fed.{Fed}
-use Rattle.session.specs.Objects.{standingOf, Sound, Over}
-use Rattle.session.specs.Running.{Came, Runs}
-use Rattle.session.specs.Advancing.{placeOf, afterRun, Tame, Advances}
+use Rattle.session_run.specs.declared.place.Place.{Place}
+use Rattle.session_run.specs.declared.run.Ran.{Ran}
+use Rattle.session_run.specs.declared.advance.Fed.{Fed}
+use Rattle.session_run.specs.Objects.{standingOf, Sound, Over}
+use Rattle.session_run.specs.Running.{Came, Runs}
+use Rattle.session_run.specs.Advancing.{placeOf, afterRun, Tame, Advances}
 
 -- ---- what is changed in a session
 

@@ -1,11 +1,4 @@
--- What the functions of a session promise.
-pub mod Steps
-pub mod Wholes
-pub mod Told
-pub mod Insides
-pub mod Objects
-pub mod Running
-pub mod Advancing
+-- What the calls on a session, by value, promise.
 pub mod Feeding
 pub mod Turning
 pub mod Giving

@@ -12,10 +12,10 @@ use Rattle.pieces.specs.Going.{room}
 use Rattle.pieces.specs.Held.{firstOf}
 use Rattle.pieces.specs.HeldLaws.{length-first, take-first}
 use Rattle.pieces.specs.Session.{heldBytes}
-use Rattle.session.specs.declared.advance.Fed.{Fed}
+use Rattle.session_run.specs.declared.advance.Fed.{Fed}
 use Rattle.session.specs.declared.feed.Tried.{Tried}
 use Rattle.session.specs.declared.feed.Turn.{Turn}
-use Rattle.session.specs.Advancing.{Advances}
+use Rattle.session_run.specs.Advancing.{Advances}
 use Rattle.session.specs.Feeding.{withHeld, stop, Able, Feeds, MayGoOn, able-on, feeds-stopped, feeds-held, feeds-on}
 
 -- It goes on with what is left: less than there was, and what comes of that comes of it.

@@ -1,8 +1,8 @@
 // A session, run over the bytes that it holds and those of a piece.
-use crate::advance::advance;
+use session_run::advance::advance;
 use crate::hold::appended;
 use crate::hold::kept;
-use crate::place::STOPPED;
+use session_run::place::STOPPED;
 use drawing::numbers::ACCEPTED;
 use drawing::numbers::CUT;
 use pieces::Session;

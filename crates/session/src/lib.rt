@@ -1,12 +1,5 @@
-// A checking session (R-6): a plan that comes in pieces is judged part by part, and not stored.
-pub mod advance;
+// A checking session (R-6), by value: it is opened, given the pieces of a plan, and asked for the verdict.
 pub mod feed;
-pub mod field;
 pub mod hold;
-pub mod parts;
 pub mod piece;
-pub mod place;
-pub mod run;
-pub mod step;
 pub mod verdict;
-pub mod whole;

@@ -1,7 +1,7 @@
 // A piece of a file, given to a session by value.
 use crate::feed::fed;
-use crate::place::COUNTING;
-use crate::place::OBJECTS;
+use session_run::place::COUNTING;
+use session_run::place::OBJECTS;
 use crate::verdict::NO_SESSION;
 use crate::verdict::Taken;
 use crate::verdict::answered;

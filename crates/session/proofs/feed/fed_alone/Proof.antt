@@ -7,7 +7,7 @@ use Rattle.session.proofs.feed.fed_alone.Statement.{statement}
 use Rattle.session.proofs.feed.fed_alone.Tie as tie
 use Rattle.session.proofs.feed.fed_alone.Reads as reads
 use Rattle.session.proofs.feed.fed_alone.Lts as lts
-use Rattle.session.proofs.advance.advance.Reads as advance-reads
+use Rattle.session_run.proofs.advance.advance.Reads as advance-reads
 use Rattle.session.proofs.feed.goes_on.Reads as goes-on-reads
 use Rattle.session.proofs.feed.stopped.Reads as stopped-reads
 use Rattle.session.proofs.feed.with_held.Reads as with-held-reads

@@ -10,7 +10,7 @@ use Rattle.session.proofs.feed.run_joined.Statement.{statement}
 use Rattle.session.proofs.feed.run_joined.Tie as tie
 use Rattle.session.proofs.feed.run_joined.Reads as reads
 use Rattle.session.proofs.feed.run_joined.Lts as lts
-use Rattle.session.proofs.advance.advance.Reads as advance-reads
+use Rattle.session_run.proofs.advance.advance.Reads as advance-reads
 use Rattle.session.proofs.feed.least.Reads as least-reads
 use Rattle.session.proofs.hold.appended.Reads as appended-reads
 use Rattle.session.proofs.hold.kept.Reads as kept-reads

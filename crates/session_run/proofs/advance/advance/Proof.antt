@@ -1,0 +1,62 @@
+use Rattle.session_run.specs.Running.{Runs}
+use Rattle.session_run.specs.Advancing.{run-ready, placeOf}
+use lib.ListN.{length}
+use mathlib.Core.Path.{refl, subst, sym}
+use borrow.Author.Needs.{needs}
+use Rattle.session_run.proofs.advance.advance.Statement.{statement}
+use Rattle.session_run.proofs.advance.advance.Tie as tie
+use Rattle.session_run.proofs.advance.advance.Reads as reads
+use Rattle.session_run.proofs.advance.advance.Lts as lts
+use Rattle.session_run.proofs.advance.after_run.Reads as after-run-reads
+use Rattle.session_run.proofs.advance.copied.Reads as copied-reads
+use Rattle.session_run.proofs.advance.place_of.Reads as place-of-reads
+use Rattle.session_run.proofs.run.run.Reads as run-reads
+
+-- src/advance.rt:100:23
+copied-requires : tie.Need-copied-requires
+copied-requires c κs = search needs
+
+-- src/advance.rt:101:24
+cast-run : tie.Need-cast-run
+cast-run c = search needs
+
+-- src/advance.rt:101:42
+place-of-requires : tie.Need-place-of-requires
+place-of-requires c κs = search needs
+
+-- src/advance.rt:101:55
+slice-aggregate-run : tie.Need-slice-aggregate-run
+slice-aggregate-run c = search needs
+
+-- src/advance.rt:101:9
+run-requires : tie.Need-run-requires
+run-requires c κs =
+    let at-place-of = c .before in
+    let at-copied = at-place-of .before .before in
+    let at-args = at-copied .before .before .before in
+    run-ready (at-args .args .s) (at-args .args .src .now) (at-args .args .base) (at-args .pre .0) (at-args .pre .1) (at-place-of .place-of .ensures) (at-copied .copied .result) (at-copied .copied .ensures .0)
+
+-- src/advance.rt:104:18
+after-run-requires : tie.Need-after-run-requires
+after-run-requires c κs = search needs
+
+-- src/advance.rt:95:1
+returns : tie.Need-returns
+returns c =
+    let at-run = c .before .before in
+    let at-place-of = at-run .before .before in
+    let at-copied = at-place-of .before .before in
+    let at-args = at-copied .before .before .before in
+    record { ran = at-run .run .result; before = at-copied .copied .result; copied = record { same = at-copied .copied .ensures .1 }; members = (at-run .run .last .1 .1 .1 .0); runs = subst (λ p. Runs p (at-copied .copied .result) (at-run .run .last .1 .1 .1 .0) (at-args .args .src .now) (at-args .args .s .words) (at-run .run .result)) (at-place-of .place-of .ensures) (at-run .run .ensures); at-is = refl; session-is = c .after-run .ensures }
+
+pub advance-spec : {M : Type 1} → statement M
+advance-spec =
+    tie.close
+    (tie.spec
+    copied-requires
+    cast-run
+    place-of-requires
+    slice-aggregate-run
+    run-requires
+    after-run-requires
+    returns)

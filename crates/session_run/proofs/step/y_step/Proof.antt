@@ -1,0 +1,40 @@
+use Rattle.session_run.specs.Insides.{step-is, told-inside, withRun, y-tells}
+use Rattle.pieces.specs.OutlineLaws.{segmentsFrom}
+use Rattle.pieces.specs.declared.Inside.{Inside}
+use Rattle.drawing.specs.Fields as F
+use mathlib.Core.Bool.{cond}
+use mathlib.Core.Path.{_∙_, ap, refl}
+use Rattle.format.specs.LeafLaws.{known-below}
+use mir.Syntax.{w8}
+use native.Mathlib.Omega.{arith}
+use borrow.Author.Needs.{needs}
+use Rattle.session_run.proofs.step.y_step.Statement.{statement}
+use Rattle.session_run.proofs.step.y_step.Tie as tie
+use Rattle.session_run.proofs.step.y_step.Reads as reads
+use Rattle.session_run.proofs.step.y_step.Lts as lts
+use Rattle.session_run.proofs.field.double.Reads as double-reads
+use Rattle.session_run.proofs.step.segments_from.Reads as segments-from-reads
+use Rattle.session_run.proofs.step.stepped.Reads as stepped-reads
+
+-- src/step.rt:313:9
+double-requires : tie.Need-double-requires
+double-requires c κs = search needs
+
+-- src/step.rt:322:13
+segments-from-requires : tie.Need-segments-from-requires
+segments-from-requires c κs = search needs
+
+-- src/step.rt:322:5
+stepped-requires : tie.Need-stepped-requires
+stepped-requires c κs = search needs
+
+-- src/step.rt:308:1
+returns : tie.Need-returns
+returns c =
+    let at-segments-from = c .before in
+    let at-double = at-segments-from .before in
+    let at-args = at-double .before .before in
+    step-is (c .stepped .ensures) (told-inside (y-tells (at-args .args .version) (at-args .args .s) (at-args .pre .1 .1)) (at-double .double .ensures) (at-segments-from .segments-from .ensures))
+
+pub y-step-spec : {M : Type 1} → statement M
+y-step-spec = tie.close (tie.spec double-requires segments-from-requires stepped-requires returns)
