@@ -28,7 +28,7 @@ use Rattle.pieces.specs.TallyLaws.{plus-zero}
 use Rattle.pieces.specs.Held.{firstOf}
 use Rattle.pieces.specs.Parts.{headOn, restAt, rest}
 use Rattle.pieces.specs.Session.{standing, Going, Faulty, Within, Stands, verdictNow, stopped}
-use Rattle.pieces.specs.SessionPromises.{unfit, spend, Opens, Pieces, Verdict, verdictIn, Verdicts}
+use Rattle.pieces.specs.SessionPromises.{noSession, unfit, spend, Opens, Pieces, Verdict, verdictIn, Verdicts}
 
 -- ---- any list of pieces
 
@@ -159,10 +159,10 @@ stands-verdict {bs} {s} h = by (ltb lengthLimit (length bs)) refl
         few (inl g) = g .number-now
         few (inr f) = f .some .1
 
-pub verdicts-refused : {s : Session} {r : Answer} → unfit s ≡ true → r ≡ answer 22 0 0 0 → Verdicts s s r
-verdicts-refused {s} {r} bad is =
+pub verdicts-refused : {s s′ : Session} {r : Answer} → unfit s ≡ true → s′ ≡ s → r ≡ answer noSession 0 0 0 → Verdicts s s′ r
+verdicts-refused {s} {s′} {r} bad same is =
     record {
-      refused = λ e. (is, refl);
+      refused = λ e. (is, same);
       given = λ e. absurd (false≢true (sym e ∙ bad));
       stands = λ bs h. absurd (false≢true (sym (stands-fit h) ∙ bad));
     }

@@ -14,7 +14,7 @@ mod hash;
 mod list;
 mod questions;
 mod read;
-mod session;
+mod sessions;
 mod sheet;
 mod table;
 
@@ -76,7 +76,7 @@ fn put_call(buffer: &mut Buffer, used: usize, call: &[u8], file: &[u8]) -> usize
     let mut words = [0u32; 104000];
     let count = data::get_words(file, &mut words);
     if same(call, b"session") {
-        return session::put_groups(buffer, used, &words[..count], file);
+        return sessions::put_groups(buffer, used, &words[..count], file);
     }
     put_table(buffer, used, call, &words[..count])
 }

@@ -21,7 +21,7 @@ use Rattle.pieces.specs.Parts.{headOn, rest}
 use Rattle.pieces.specs.Verdict.{verdictOf}
 use Rattle.pieces.specs.Session.{standing, heldBytes, verdictNow, Going, Faulty, Within, Stands}
 use Rattle.pieces.specs.SessionLaws.{stands-fit}
-use Rattle.pieces.specs.SessionPromises.{unfit, Pieces}
+use Rattle.pieces.specs.SessionPromises.{noSession, unfit, Pieces}
 use Rattle.session.specs.Feeding.{withBytes, Able, Behind, Feeds, Tells}
 
 -- No fault was found, and no number is too large for the bytes given.
@@ -189,13 +189,13 @@ fit-numbers s fit = by (ltb depthLimit (s .depth)) refl fit
     by false e h = (ltb-false depthLimit (s .depth) e, ltb-false (suc lengthLimit) (s .bytes) h)
 
 module _ {s : Session} {piece : List ℕ} {r : Answer} where
-  pub pieces-unfit : unfit s ≡ true → r ≡ answer 22 0 0 0 → Pieces s piece s r
-  pieces-unfit bad is =
+  pub pieces-unfit : unfit s ≡ true → {s′ : Session} → s′ ≡ s → r ≡ answer noSession 0 0 0 → Pieces s piece s′ r
+  pieces-unfit bad {s′} same is =
       record {
         says = is ∙ sym (ap (λ t. answer (cond t 22 0) 0 0 0) bad);
-        unfit-same = λ e. refl;
-        spent-same = λ e. refl;
-        fresh = λ e. e;
+        unfit-same = λ e. same;
+        spent-same = λ e. same;
+        fresh = λ e. ap (λ (t : Session). t .spent) same ∙ e;
         stands = λ e bs h. absurd (false≢true (sym (stands-fit h) ∙ bad));
       }
 

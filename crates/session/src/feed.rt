@@ -1,11 +1,11 @@
 // A session, run over the bytes that it holds and those of a piece.
-use session_run::advance::advance;
 use crate::hold::appended;
 use crate::hold::kept;
-use session_run::place::STOPPED;
 use drawing::numbers::ACCEPTED;
 use drawing::numbers::CUT;
 use pieces::Session;
+use session_run::advance::advance;
+use session_run::place::STOPPED;
 ghost use mathlib.Core.Path.{_≡_};
 ghost use mathlib.Core.List.{_++_};
 ghost use Prim.Native.Nat.{_+_, _<_, _≤_, min};

@@ -1,15 +1,15 @@
 // A piece of a file, given to a session by value.
 use crate::feed::fed;
-use session_run::place::COUNTING;
-use session_run::place::OBJECTS;
-use crate::verdict::NO_SESSION;
 use crate::verdict::Taken;
 use crate::verdict::answered;
 use crate::verdict::is_unfit;
+use crate::verdict::refused;
 use drawing::limits::DEPTH_LIMIT;
 use drawing::limits::LENGTH_LIMIT;
 use drawing::numbers::ACCEPTED;
 use pieces::Session;
+use session_run::place::COUNTING;
+use session_run::place::OBJECTS;
 ghost use mathlib.Core.Path.{_≡_};
 ghost use Prim.Native.Nat.{suc, _<_, _≤_};
 ghost use Rattle.drawing.specs.Limits.{lengthLimit, depthLimit};
@@ -80,10 +80,7 @@ pub fn pieced(s: Session, bytes: &[u8]) -> Taken
     ensures { λ r. ⌜ Pieces s (now (bytes .entry)) (r .session) (r .answer) ⌝ }
 {
     if is_unfit(s) {
-        return Taken {
-            session: s,
-            answer: answered(NO_SESSION, 0),
-        };
+        return refused(s);
     }
     if s.spent != 0 {
         return Taken {

@@ -11,7 +11,7 @@ ghost use mathlib.Core.Path.{_≡_};
 ghost use Prim.Native.Nat.{_-_};
 ghost use Rattle.drawing.specs.Answers.{answer};
 ghost use Rattle.pieces.specs.Session.{verdictNow};
-ghost use Rattle.pieces.specs.SessionPromises.{unfit, spend, Opens, verdictIn, Verdicts};
+ghost use Rattle.pieces.specs.SessionPromises.{noSession, unfit, spend, Opens, verdictIn, Verdicts};
 
 // A session, and the answer of the call.
 pub struct Taken {
@@ -19,7 +19,7 @@ pub struct Taken {
     pub answer: Answer,
 }
 
-pub const NO_SESSION: u32 = 22;
+const NO_SESSION: u32 = 22;
 
 pub fn answered(number: u32, offset: u32) -> Answer
     ensures { λ r. ⌜ r ≡ answer number offset 0 0 ⌝ }
@@ -123,15 +123,23 @@ fn spent(s: Session) -> Session
     t
 }
 
+// The answer to what is no session: it stays as it is.
+pub fn refused(s: Session) -> Taken
+    ensures { λ r. ⌜ (r .session ≡ s) × (r .answer ≡ answer noSession 0 0 0) ⌝ }
+{
+    let t = s;
+    Taken {
+        session: t,
+        answer: answered(NO_SESSION, 0),
+    }
+}
+
 // The verdict on the bytes so far, which spends the session.
 pub fn judged(s: Session) -> Taken
     ensures { λ r. ⌜ Verdicts s (r .session) (r .answer) ⌝ }
 {
     if is_unfit(s) {
-        return Taken {
-            session: s,
-            answer: answered(NO_SESSION, 0),
-        };
+        return refused(s);
     }
     Taken {
         session: spent(s),

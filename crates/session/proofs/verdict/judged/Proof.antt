@@ -6,7 +6,7 @@ use Rattle.session.proofs.verdict.judged.Tie as tie
 use Rattle.session.proofs.verdict.judged.Reads as reads
 use Rattle.session.proofs.verdict.judged.Lts as lts
 use Rattle.session.proofs.verdict.answer_in.Reads as answer-in-reads
-use Rattle.session.proofs.verdict.answered.Reads as answered-reads
+use Rattle.session.proofs.verdict.refused.Reads as refused-reads
 use Rattle.session.proofs.verdict.is_unfit.Reads as is-unfit-reads
 use Rattle.session.proofs.verdict.spent.Reads as spent-reads
 
@@ -15,12 +15,12 @@ is-unfit-requires : tie.Need-is-unfit-requires
 is-unfit-requires c κs = search needs
 
 -- src/verdict.rt:133:21
-answered-requires : tie.Need-answered-requires
-answered-requires c κs = search needs
+refused-requires : tie.Need-refused-requires
+refused-requires c κs = search needs
 
 -- src/verdict.rt:131:9
 returns : tie.Need-returns
-returns c = verdicts-refused (sym (c .before .before .is-unfit .ensures) ∙ c .before .if1 .taken) (c .answered .ensures)
+returns c = verdicts-refused (sym (c .before .before .is-unfit .ensures) ∙ c .before .if1 .taken) (c .refused .ensures .0) (c .refused .ensures .1)
 
 -- src/verdict.rt:137:18
 spent-requires : tie.Need-spent-requires
@@ -43,7 +43,7 @@ judged-spec =
     tie.close
     (tie.spec
     is-unfit-requires
-    answered-requires
+    refused-requires
     returns
     spent-requires
     answer-in-requires

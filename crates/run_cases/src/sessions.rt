@@ -9,6 +9,10 @@ use crate::group::put_hash;
 use crate::hash;
 use drawing::Answer;
 use jdr::Session;
+use session::piece::pieced;
+use session::verdict::Taken;
+use session::verdict::judged;
+use session::verdict::opened;
 use text_out::Buffer;
 use text_out::put_all;
 use text_out::put_next;
@@ -33,7 +37,14 @@ pub fn put_groups(buffer: &mut Buffer, used: usize, words: &[u32], data: &[u8]) 
     )
 }
 
+// A session behind some pieces, and the hash of what the calls answered.
+struct Given {
+    session: Session,
+    sum: u32,
+}
+
 // The file in pieces; then what comes behind a verdict. The session opened again, with the verdict in the middle of the file. At last the made-up session itself.
+// The calls are made by value, as those on a session that is lent make them.
 fn put_sessions(
     buffer: &mut Buffer,
     used: usize,
@@ -44,67 +55,75 @@ fn put_sessions(
 ) -> usize
     ensures { λ r. ⌜ r ≤ 4096 ⌝ }
 {
-    let mut session = lent;
     let half = least(middle as usize, file.len());
-    let used = put_opened(buffer, used, &mut session, cuts, file);
-    let used = put_spent(buffer, used, &mut session, cuts, file);
-    let used = put_opened(buffer, used, &mut session, cuts, &file[0..half]);
-    let used = put_spent(buffer, used, &mut session, cuts, &file[half..]);
-    let used = put_made_up_piece(buffer, used, lent, file);
-    put_made_up_verdict(buffer, used, lent)
+    let first = open_and_give(lent, cuts, file);
+    let whole = first.session;
+    let used = put_verdict(buffer, used, whole, first.sum);
+    let spent = after_verdict(whole);
+    let used = put_spent(buffer, used, spent, cuts, file);
+    let second = open_and_give(spent, cuts, &file[0..half]);
+    let begun = second.session;
+    let used = put_verdict(buffer, used, begun, second.sum);
+    let used = put_spent(buffer, used, after_verdict(begun), cuts, &file[half..]);
+    let used = put_made_up(buffer, used, lent, pieced(lent, file));
+    put_made_up(buffer, used, lent, judged(lent))
 }
 
-// A session that is opened, whatever it holds: the verdict, and the hash of what opening and the pieces answered.
-fn put_opened(
-    buffer: &mut Buffer,
-    used: usize,
-    session: &mut Session,
-    cuts: &[u32],
-    file: &[u8],
-) -> usize
-    ensures { λ r. ⌜ r ≤ 4096 ⌝ }
-{
-    let opened = with_answer(hash::NONE, jdr::open(session));
-    let sum = give(session, opened, cuts, file);
-    put_verdict(buffer, used, session, sum)
+// A session that is opened, whatever it holds, and given a file.
+fn open_and_give(lent: Session, cuts: &[u32], file: &[u8]) -> Given {
+    let begun = opened(lent);
+    let session = begun.session;
+    let answer = begun.answer;
+    give(session, with_answer(hash::NONE, answer), cuts, file)
 }
 
-// A session that is spent: the same of more pieces, and 1 if they left it as it was.
-fn put_spent(
-    buffer: &mut Buffer,
-    used: usize,
-    session: &mut Session,
-    cuts: &[u32],
-    file: &[u8],
-) -> usize
-    ensures { λ r. ⌜ r ≤ 4096 ⌝ }
-{
-    let before = holds(*session);
-    let sum = give(session, hash::NONE, cuts, file);
-    let after = holds(*session);
-    let used = put_verdict(buffer, used, session, sum);
-    put_next(buffer, used, is_same(before, after))
+fn after_verdict(session: Session) -> Session {
+    let taken = judged(session);
+    let after = taken.session;
+    after
 }
 
-fn put_verdict(buffer: &mut Buffer, used: usize, session: &mut Session, sum: u32) -> usize
+// A session that is spent: the verdict behind more pieces, and 1 if they left it as it was.
+fn put_spent(buffer: &mut Buffer, used: usize, spent: Session, cuts: &[u32], file: &[u8]) -> usize
     ensures { λ r. ⌜ r ≤ 4096 ⌝ }
 {
-    let used = put_answer(buffer, used, jdr::verdict(session));
+    let given = give(spent, hash::NONE, cuts, file);
+    let after = given.session;
+    let used = put_verdict(buffer, used, after, given.sum);
+    put_next(buffer, used, is_same(holds(spent), holds(after)))
+}
+
+fn put_verdict(buffer: &mut Buffer, used: usize, session: Session, sum: u32) -> usize
+    ensures { λ r. ⌜ r ≤ 4096 ⌝ }
+{
+    let taken = judged(session);
+    let answer = taken.answer;
+    let used = put_answer(buffer, used, answer);
     put_hash(buffer, used, sum)
 }
 
 // The pieces of the file between the cuts: the hash of what they answer, and of what is before them.
-fn give(session: &mut Session, before: u32, cuts: &[u32], file: &[u8]) -> u32 {
+fn give(session: Session, before: u32, cuts: &[u32], file: &[u8]) -> Given {
+    let mut now = session;
     let mut sum = before;
     let mut at = 0;
     let mut i = 0;
     while i < cuts.len() {
         let end = cut_at(at, cuts[i], file.len());
-        sum = with_answer(sum, jdr::piece(session, &file[at..end]));
+        let taken = pieced(now, &file[at..end]);
+        let answer = taken.answer;
+        sum = with_answer(sum, answer);
+        now = taken.session;
         at = end;
         i += 1;
     }
-    with_answer(sum, jdr::piece(session, &file[at..]))
+    let last = pieced(now, &file[at..]);
+    let after = last.session;
+    let answer = last.answer;
+    Given {
+        session: after,
+        sum: with_answer(sum, answer),
+    }
 }
 
 // Where a piece ends that begins here: at the cut, but not before its own beginning and not behind the end.
@@ -119,33 +138,13 @@ fn cut_at(start: usize, cut: u32, all: usize) -> usize
     least(place, all)
 }
 
-// A session that opening did not begin.
-fn put_made_up_piece(buffer: &mut Buffer, used: usize, lent: Session, file: &[u8]) -> usize
+// A session that opening did not begin, and what a call made of it. Where it was refused: the answer, and 1 if the session is as it was. Nothing else is
+// promised of it.
+fn put_made_up(buffer: &mut Buffer, used: usize, before: Session, taken: Taken) -> usize
     ensures { λ r. ⌜ r ≤ 4096 ⌝ }
 {
-    let mut session = lent;
-    let answer = jdr::piece(&mut session, file);
-    put_made_up(buffer, used, lent, session, answer)
-}
-
-fn put_made_up_verdict(buffer: &mut Buffer, used: usize, lent: Session) -> usize
-    ensures { λ r. ⌜ r ≤ 4096 ⌝ }
-{
-    let mut session = lent;
-    let answer = jdr::verdict(&mut session);
-    put_made_up(buffer, used, lent, session, answer)
-}
-
-// Where it is refused: the answer, and 1 if the session is as it was. Nothing else is promised of it.
-fn put_made_up(
-    buffer: &mut Buffer,
-    used: usize,
-    before: Session,
-    after: Session,
-    answer: Answer,
-) -> usize
-    ensures { λ r. ⌜ r ≤ 4096 ⌝ }
-{
+    let answer = taken.answer;
+    let after = taken.session;
     if answer.number != NO_SESSION {
         return put_all(buffer, used, b" ; -");
     }
