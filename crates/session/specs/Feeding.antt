@@ -27,87 +27,14 @@ use Rattle.pieces.specs.Parts.{Standing, groups, headOn, restAt, rest}
 use Rattle.pieces.specs.EntryLaws.{none-inside, rest-around, rest-agree}
 use Rattle.pieces.specs.Verdict.{verdictOf, comes}
 use Rattle.pieces.specs.VerdictLaws.{verdict-tallied, refused-verdict}
-use Rattle.pieces.specs.Session.{standing, heldBytes, verdictNow, stopped, Going, Faulty, Within}
+use Rattle.pieces.specs.Session.{standing, heldBytes, verdictNow, Going, Faulty, Within}
+use Rattle.session.specs.Changes.{withHeld, stop}
 use Rattle.session_run.specs.declared.place.Place.{Place}
 use Rattle.session_run.specs.declared.run.Ran.{Ran}
 use Rattle.session_run.specs.declared.advance.Fed.{Fed}
 use Rattle.session_run.specs.Objects.{standingOf, Sound, Over}
 use Rattle.session_run.specs.Running.{Came, Runs}
 use Rattle.session_run.specs.Advancing.{placeOf, afterRun, Tame, Advances}
-
--- ---- what is changed in a session
-
--- Bytes are held in it.
-abbrev pub withHeld : Session → List ℕ → ℕ → Session
-withHeld s buffer held =
-    record {
-      spent = s .spent;
-      depth = s .depth;
-      bytes = s .bytes;
-      number = s .number;
-      offset = s .offset;
-      rows = s .rows;
-      words = s .words;
-      version = s .version;
-      stage = s .stage;
-      width = s .width;
-      segments = s .segments;
-      held = held;
-      parts = s .parts;
-      run = s .run;
-      x = s .x;
-      y = s .y;
-      members = s .members;
-      buffer = buffer;
-    }
-
--- A fault was found.
-abbrev pub stop : Session → Session
-stop s =
-    record {
-      spent = s .spent;
-      depth = s .depth;
-      bytes = s .bytes;
-      number = s .number;
-      offset = s .offset;
-      rows = s .rows;
-      words = s .words;
-      version = s .version;
-      stage = stopped;
-      width = s .width;
-      segments = s .segments;
-      held = s .held;
-      parts = s .parts;
-      run = s .run;
-      x = s .x;
-      y = s .y;
-      members = s .members;
-      buffer = s .buffer;
-    }
-
--- So many bytes were given.
-abbrev pub withBytes : Session → ℕ → Session
-withBytes s bytes =
-    record {
-      spent = s .spent;
-      depth = s .depth;
-      bytes = bytes;
-      number = s .number;
-      offset = s .offset;
-      rows = s .rows;
-      words = s .words;
-      version = s .version;
-      stage = s .stage;
-      width = s .width;
-      segments = s .segments;
-      held = s .held;
-      parts = s .parts;
-      run = s .run;
-      x = s .x;
-      y = s .y;
-      members = s .members;
-      buffer = s .buffer;
-    }
 
 -- ---- what is promised
 

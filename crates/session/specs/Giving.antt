@@ -22,7 +22,8 @@ use Rattle.pieces.specs.Verdict.{verdictOf}
 use Rattle.pieces.specs.Session.{standing, heldBytes, verdictNow, Going, Faulty, Within, Stands}
 use Rattle.pieces.specs.SessionLaws.{stands-fit}
 use Rattle.pieces.specs.SessionPromises.{noSession, unfit, Pieces}
-use Rattle.session.specs.Feeding.{withBytes, Able, Behind, Feeds, Tells}
+use Rattle.session.specs.Changes.{withBytes}
+use Rattle.session.specs.Feeding.{Able, Behind, Feeds, Tells}
 
 -- No fault was found, and no number is too large for the bytes given.
 pub record Runnable (s : Session) : Type 0 where

@@ -16,7 +16,8 @@ use Rattle.session_run.specs.declared.advance.Fed.{Fed}
 use Rattle.session.specs.declared.feed.Tried.{Tried}
 use Rattle.session.specs.declared.feed.Turn.{Turn}
 use Rattle.session_run.specs.Advancing.{Advances}
-use Rattle.session.specs.Feeding.{withHeld, stop, Able, Feeds, MayGoOn, able-on, feeds-stopped, feeds-held, feeds-on}
+use Rattle.session.specs.Changes.{withHeld, stop}
+use Rattle.session.specs.Feeding.{Able, Feeds, MayGoOn, able-on, feeds-stopped, feeds-held, feeds-on}
 
 -- It goes on with what is left: less than there was, and what comes of that comes of it.
 pub record On (s : Session) (piece : List ℕ) (t : Session) (from : ℕ) : Type 0 where

@@ -11,7 +11,8 @@ ghost use mathlib.Core.List.{_++_};
 ghost use Prim.Native.Nat.{_+_, _<_, _≤_, min};
 ghost use lib.ListN.{length};
 ghost use Rattle.pieces.specs.Session.{heldBytes};
-ghost use Rattle.session.specs.Feeding.{withHeld, stop, Able, Feeds, MayGoOn, Tells};
+ghost use Rattle.session.specs.Changes.{withHeld, stop};
+ghost use Rattle.session.specs.Feeding.{Able, Feeds, MayGoOn, Tells};
 ghost use Rattle.session.specs.Turning.{Tries, Turns};
 
 // So many bytes a session has room for: more than any part takes.

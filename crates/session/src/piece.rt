@@ -14,7 +14,8 @@ ghost use mathlib.Core.Path.{_≡_};
 ghost use Prim.Native.Nat.{suc, _<_, _≤_};
 ghost use Rattle.drawing.specs.Limits.{lengthLimit, depthLimit};
 ghost use Rattle.pieces.specs.SessionPromises.{Pieces};
-ghost use Rattle.session.specs.Feeding.{withBytes, Tells};
+ghost use Rattle.session.specs.Changes.{withBytes};
+ghost use Rattle.session.specs.Feeding.{Tells};
 ghost use Rattle.session.specs.Giving.{Runnable, Gives};
 
 // A group whose count comes next may be open.

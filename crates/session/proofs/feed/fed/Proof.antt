@@ -4,10 +4,6 @@ use Prim.Native.Nat.{_+_, _-_}
 use native.Mathlib.Omega.{arith}
 use Rattle.session.proofs.feed.fed.Statement.{statement}
 use Rattle.session.proofs.feed.fed.Tie as tie
-use Rattle.session.proofs.feed.fed.Reads as reads
-use Rattle.session.proofs.feed.fed.Lts as lts
-use Rattle.session.proofs.feed.fed_alone.Reads as fed-alone-reads
-use Rattle.session.proofs.feed.turned.Reads as turned-reads
 
 abbrev Inv-loop : tie.InvT-loop
 Inv-loop bytes t₀ from₀ t from = Along t₀ bytes t from
@@ -15,29 +11,23 @@ Inv-loop bytes t₀ from₀ t from = Along t₀ bytes t from
 abbrev μ-loop : tie.MeasureT-loop
 μ-loop bytes t₀ from₀ t from = t .held + (length bytes - from)
 
--- src/feed.rt:165:5
 loop-holds : tie.Need-loop-holds Inv-loop μ-loop
 loop-holds c = along-start (c .before .pre .0) (c .before .pre .1)
 
--- src/feed.rt:166:30
 sub-turned : tie.Need-sub-turned Inv-loop μ-loop
 sub-turned c = let there = c .before .before .loop .inv .there in omega arith
 
--- src/feed.rt:166:30
 part-turned-start : tie.Need-part-turned-start Inv-loop μ-loop
 part-turned-start c = let there = c .before .before .loop .inv .there in omega arith
 
--- src/feed.rt:166:30
 part-turned-end : tie.Need-part-turned-end Inv-loop μ-loop
 part-turned-end c = let there = c .before .before .loop .inv .there in omega arith
 
--- src/feed.rt:166:13
 turned-requires : tie.Need-turned-requires Inv-loop μ-loop
 turned-requires c κs =
     let at-loop = c .before .before .before in
     (able-turn (at-loop .loop .inv), omega arith, at-loop .loop .inv .few-held)
 
--- src/feed.rt:168:13
 returns : tie.Need-returns Inv-loop μ-loop
 returns c =
     let at-if2 = c .before in
@@ -45,7 +35,6 @@ returns c =
     let at-loop = at-turned .before .before .before .before in
     along-ended (at-loop .loop .inv) (at-turned .turned .ensures) (at-if2 .if2 .taken)
 
--- src/feed.rt:170:16
 add-from : tie.Need-add-from Inv-loop μ-loop
 add-from c =
     let at-if2 = c .before in
@@ -53,7 +42,6 @@ add-from c =
     let at-loop = at-turned .before .before .before .before in
     let fits = along-less (at-loop .loop .inv) (at-turned .turned .ensures) (at-if2 .if2 .left) .0 in omega arith
 
--- src/feed.rt:165:5
 loop-less : tie.Need-loop-less Inv-loop μ-loop
 loop-less c =
     let at-if2 = c .before .before in
@@ -61,7 +49,6 @@ loop-less c =
     let at-loop = at-turned .before .before .before .before in
     along-less (at-loop .loop .inv) (at-turned .turned .ensures) (at-if2 .if2 .left) .1
 
--- src/feed.rt:165:5
 loop-again : tie.Need-loop-again Inv-loop μ-loop
 loop-again c =
     let at-if2 = c .before .before in
@@ -69,23 +56,18 @@ loop-again c =
     let at-loop = at-turned .before .before .before .before in
     along-on (at-loop .loop .inv) (at-turned .turned .ensures) (at-if2 .if2 .left)
 
--- src/feed.rt:173:18
 sub-fed-alone : tie.Need-sub-fed-alone Inv-loop μ-loop
 sub-fed-alone c = let there = c .before .before .loop .inv .there in omega arith
 
--- src/feed.rt:173:18
 part-fed-alone-start : tie.Need-part-fed-alone-start Inv-loop μ-loop
 part-fed-alone-start c = let there = c .before .before .loop .inv .there in omega arith
 
--- src/feed.rt:173:18
 part-fed-alone-end : tie.Need-part-fed-alone-end Inv-loop μ-loop
 part-fed-alone-end c = let there = c .before .before .loop .inv .there in omega arith
 
--- src/feed.rt:173:5
 fed-alone-requires : tie.Need-fed-alone-requires Inv-loop μ-loop
 fed-alone-requires c κs = able-last (c .before .before .before .loop .inv) (omega arith)
 
--- src/feed.rt:159:1
 returns-2 : tie.Need-returns-2 Inv-loop μ-loop
 returns-2 c = along-last (c .before .before .before .before .loop .inv) (omega arith) (c .fed-alone .ensures)
 

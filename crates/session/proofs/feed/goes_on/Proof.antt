@@ -3,14 +3,10 @@ use native.Mathlib.Omega.{arith}
 use mathlib.Core.Logic.{inl, inr}
 use Rattle.session.proofs.feed.goes_on.Statement.{statement}
 use Rattle.session.proofs.feed.goes_on.Tie as tie
-use Rattle.session.proofs.feed.goes_on.Reads as reads
-use Rattle.session.proofs.feed.goes_on.Lts as lts
 
--- src/feed.rt:43:9
 returns : tie.Need-returns
 returns c = tells-yes (inl (omega arith))
 
--- src/feed.rt:39:1
 returns-2 : tie.Need-returns-2
 returns-2 c = tells-going (c .before .before .before .args .s) (λ z. omega arith)
 

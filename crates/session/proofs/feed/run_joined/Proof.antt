@@ -8,42 +8,28 @@ use native.Mathlib.Omega.{arith}
 use borrow.Author.Needs.{needs}
 use Rattle.session.proofs.feed.run_joined.Statement.{statement}
 use Rattle.session.proofs.feed.run_joined.Tie as tie
-use Rattle.session.proofs.feed.run_joined.Reads as reads
-use Rattle.session.proofs.feed.run_joined.Lts as lts
-use Rattle.session_run.proofs.advance.advance.Reads as advance-reads
-use Rattle.session.proofs.feed.least.Reads as least-reads
-use Rattle.session.proofs.hold.appended.Reads as appended-reads
-use Rattle.session.proofs.hold.kept.Reads as kept-reads
 
--- src/feed.rt:88:16
 cast-held : tie.Need-cast-held
 cast-held c = search needs
 
--- src/feed.rt:89:35
 sub-least : tie.Need-sub-least
 sub-least c = search needs
 
--- src/feed.rt:89:9
 least-requires : tie.Need-least-requires
 least-requires c κs = search needs
 
--- src/feed.rt:90:15
 add-all : tie.Need-add-all
 add-all c = search needs
 
--- src/feed.rt:92:27
 kept-requires : tie.Need-kept-requires
 kept-requires c κs = search needs
 
--- src/feed.rt:92:18
 appended-requires : tie.Need-appended-requires
 appended-requires c κs = search needs
 
--- src/feed.rt:93:27
 array-share-prefix-joined : tie.Need-array-share-prefix-joined
 array-share-prefix-joined c = search needs
 
--- src/feed.rt:93:27
 slice-aggregate-advance : tie.Need-slice-aggregate-advance
 slice-aggregate-advance c =
     let at-appended = c .before in
@@ -51,19 +37,15 @@ slice-aggregate-advance c =
     let at-args = at-least .before .before .before in
     let full = at-appended .appended .ensures .0 in let most = at-least .least .ensures in sym (length-take-le (at-args .args .s .held + at-least .least .result) (at-appended .appended .result) (omega arith))
 
--- src/feed.rt:93:43
 cast-advance : tie.Need-cast-advance
 cast-advance c = search needs
 
--- src/feed.rt:93:43
 sub-advance : tie.Need-sub-advance
 sub-advance c = search needs
 
--- src/feed.rt:93:43
 sub-advance-2 : tie.Need-sub-advance-2
 sub-advance-2 c = search needs
 
--- src/feed.rt:93:9
 advance-requires : tie.Need-advance-requires
 advance-requires c κs =
     let at-appended = c .before .before in
@@ -71,7 +53,6 @@ advance-requires c κs =
     let at-args = at-least .before .before .before in
     let long = length-take (at-args .args .s .held + at-least .least .result) (at-appended .appended .result) in let most = at-least .least .ensures in let words = at-args .pre .0 .few-words in let short = at-args .pre .0 .short in (able-tame (at-args .pre .0), omega arith)
 
--- src/feed.rt:84:1
 returns : tie.Need-returns
 returns c =
     let at-advance = c .before in

@@ -8,8 +8,6 @@ use native.Mathlib.Nat as Nat
 use native.Mathlib.Omega.{arith}
 use Rattle.session.proofs.hold.appended.Statement.{statement}
 use Rattle.session.proofs.hold.appended.Tie as tie
-use Rattle.session.proofs.hold.appended.Reads as reads
-use Rattle.session.proofs.hold.appended.Lts as lts
 
 abbrev Inv-loop : tie.InvT-loop
 Inv-loop at src from count bytes₀ i₀ bytes i = (i ≤ count) × (length bytes ≡ 184) × ((k : ℕ) → k < at + i → getD bytes k 0 ≡ getD (firstOf at bytes₀ ++ take count (drop from src)) k 0)
@@ -17,42 +15,33 @@ Inv-loop at src from count bytes₀ i₀ bytes i = (i ≤ count) × (length byte
 abbrev μ-loop : tie.MeasureT-loop
 μ-loop at src from count bytes₀ i₀ bytes i = count - i
 
--- src/hold.rt:29:5
 loop-holds : tie.Need-loop-holds Inv-loop μ-loop
 loop-holds c = (omega arith, c .pre .0, λ k less. sym (both-before (firstOf (c .args .at) (c .args .old)) (take (c .args .count) (drop (c .args .from) (c .args .src .now))) k (let sized = length-first (c .args .at) (c .args .old) in omega arith) ∙ first-at (c .args .at) (c .args .old) k (omega arith)))
 
--- src/hold.rt:30:29
 add-bytes : tie.Need-add-bytes Inv-loop μ-loop
 add-bytes c = omega arith
 
--- src/hold.rt:30:25
 shared-slice-read-bytes : tie.Need-shared-slice-read-bytes Inv-loop μ-loop
 shared-slice-read-bytes c = omega arith
 
--- src/hold.rt:30:15
 add-bytes-2 : tie.Need-add-bytes-2 Inv-loop μ-loop
 add-bytes-2 c = omega arith
 
--- src/hold.rt:30:9
 array-write-bytes : tie.Need-array-write-bytes Inv-loop μ-loop
 array-write-bytes c = omega arith
 
--- src/hold.rt:31:13
 add-i : tie.Need-add-i Inv-loop μ-loop
 add-i c = omega arith
 
--- src/hold.rt:29:5
 loop-less : tie.Need-loop-less Inv-loop μ-loop
 loop-less c = omega arith
 
--- src/hold.rt:29:5
 loop-again : tie.Need-loop-again Inv-loop μ-loop
 loop-again c =
     let at-loop = c .before .before in
     let at-args = at-loop .before in
     let i = at-loop .loop .i in let ms = at-loop .loop .bytes in let sized = at-loop .loop .inv .1 in let new = getD (at-args .args .src .now) (at-args .args .from + i) 0 in let both = firstOf (at-args .args .at) (at-args .args .old) ++ take (at-args .args .count) (drop (at-args .args .from) (at-args .args .src .now)) in let is : getD both (at-args .args .at + i) 0 ≡ new = both-behind (firstOf (at-args .args .at) (at-args .args .old)) (at-args .args .src .now) (at-args .args .at) (at-args .args .from) (at-args .args .count) i (length-first (at-args .args .at) (at-args .args .old)) (omega arith) in (omega arith, length-set ms (at-args .args .at + i) new ∙ sized, λ k less. ap (λ x. getD (set ms (at-args .args .at + i) x) k 0) (sym is) ∙ filled-on (λ k. getD both k 0) ms (at-args .args .at + i) (omega arith) (at-loop .loop .inv .2) k (omega arith))
 
--- src/hold.rt:23:1
 returns : tie.Need-returns Inv-loop μ-loop
 returns c =
     let at-loop = c .before in

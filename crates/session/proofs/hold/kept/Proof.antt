@@ -6,8 +6,6 @@ use Prim.Native.Nat.{ℕ, _+_, _-_, _<_, _≤_}
 use native.Mathlib.Omega.{arith}
 use Rattle.session.proofs.hold.kept.Statement.{statement}
 use Rattle.session.proofs.hold.kept.Tie as tie
-use Rattle.session.proofs.hold.kept.Reads as reads
-use Rattle.session.proofs.hold.kept.Lts as lts
 
 abbrev Inv-loop : tie.InvT-loop
 Inv-loop count old bytes₀ i₀ bytes i = (i ≤ count) × (length bytes ≡ 184) × ((k : ℕ) → k < i → getD bytes k 0 ≡ getD old k 0)
@@ -15,34 +13,27 @@ Inv-loop count old bytes₀ i₀ bytes i = (i ≤ count) × (length bytes ≡ 18
 abbrev μ-loop : tie.MeasureT-loop
 μ-loop count old bytes₀ i₀ bytes i = count - i
 
--- src/hold.rt:15:5
 loop-holds : tie.Need-loop-holds Inv-loop μ-loop
 loop-holds c = (omega arith, refl, λ k less. absurd (omega arith))
 
--- src/hold.rt:16:20
 array-read-bytes : tie.Need-array-read-bytes Inv-loop μ-loop
 array-read-bytes c = omega arith
 
--- src/hold.rt:16:9
 array-write-bytes : tie.Need-array-write-bytes Inv-loop μ-loop
 array-write-bytes c = omega arith
 
--- src/hold.rt:17:13
 add-i : tie.Need-add-i Inv-loop μ-loop
 add-i c = omega arith
 
--- src/hold.rt:15:5
 loop-less : tie.Need-loop-less Inv-loop μ-loop
 loop-less c = omega arith
 
--- src/hold.rt:15:5
 loop-again : tie.Need-loop-again Inv-loop μ-loop
 loop-again c =
     let at-loop = c .before in
     let at-args = at-loop .before in
     let i = at-loop .loop .i in let ms = at-loop .loop .bytes in let sized = at-loop .loop .inv .1 in (omega arith, length-set ms i (getD (at-args .args .t1) i 0) ∙ sized, filled-on (λ k. getD (at-args .args .t1) k 0) ms i (omega arith) (at-loop .loop .inv .2))
 
--- src/hold.rt:9:1
 returns : tie.Need-returns Inv-loop μ-loop
 returns c =
     let at-loop = c .before in

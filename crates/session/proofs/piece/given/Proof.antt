@@ -4,61 +4,44 @@ use native.Mathlib.Omega.{arith}
 use borrow.Author.Needs.{needs}
 use Rattle.session.proofs.piece.given.Statement.{statement}
 use Rattle.session.proofs.piece.given.Tie as tie
-use Rattle.session.proofs.piece.given.Reads as reads
-use Rattle.session.proofs.piece.given.Lts as lts
-use Rattle.session.proofs.feed.fed.Reads as fed-reads
-use Rattle.session.proofs.piece.is_runnable.Reads as is-runnable-reads
-use Rattle.session.proofs.piece.with_bytes.Reads as with-bytes-reads
 
--- src/piece.rt:66:23
 cast-if1 : tie.Need-cast-if1
 cast-if1 c = search needs
 
--- src/piece.rt:67:9
 returns : tie.Need-returns
 returns c =
     let at-args = c .before .before .before in
     gives-same (at-args .args .s) (at-args .args .bytes .now) (omega arith)
 
--- src/piece.rt:69:24
 cast-if2 : tie.Need-cast-if2
 cast-if2 c = search needs
 
--- src/piece.rt:69:8
 sub-if2 : tie.Need-sub-if2
 sub-if2 c = search needs
 
--- src/piece.rt:70:30
 add-with-bytes : tie.Need-add-with-bytes
 add-with-bytes c = search needs
 
--- src/piece.rt:70:9
 with-bytes-requires : tie.Need-with-bytes-requires
 with-bytes-requires c κs = search needs
 
--- src/piece.rt:70:9
 returns-2 : tie.Need-returns-2
 returns-2 c =
     let at-args = c .before .before .before .before .before .before in
     subst (Gives (at-args .args .s) (at-args .args .bytes .now)) (sym (c .with-bytes .ensures)) (gives-long (at-args .args .s) (at-args .args .bytes .now) (omega arith) (omega arith))
 
--- src/piece.rt:72:17
 cast-total : tie.Need-cast-total
 cast-total c = search needs
 
--- src/piece.rt:72:17
 add-total : tie.Need-add-total
 add-total c = search needs
 
--- src/piece.rt:73:8
 is-runnable-requires : tie.Need-is-runnable-requires
 is-runnable-requires c κs = search needs
 
--- src/piece.rt:74:20
 with-bytes-requires-2 : tie.Need-with-bytes-requires-2
 with-bytes-requires-2 c κs = search needs
 
--- src/piece.rt:74:9
 fed-requires : tie.Need-fed-requires
 fed-requires c κs =
     let at-if3 = c .before in
@@ -66,7 +49,6 @@ fed-requires c κs =
     let at-args = at-is-runnable .before .before .before .before .before .before .before in
     fed-needs (at-args .args .s) (at-args .args .bytes .now) (omega arith) (at-is-runnable .is-runnable .ensures .yes (at-if3 .if3 .taken)) (at-args .pre .0) (omega arith) (c .with-bytes2 .ensures)
 
--- src/piece.rt:74:9
 returns-3 : tie.Need-returns-3
 returns-3 c =
     let at-with-bytes2 = c .before in
@@ -75,11 +57,9 @@ returns-3 c =
     let at-args = at-is-runnable .before .before .before .before .before .before .before in
     gives-run (at-args .args .s) (at-args .args .bytes .now) (omega arith) (at-is-runnable .is-runnable .ensures .yes (at-if3 .if3 .taken)) (at-args .pre .0) (omega arith) (at-with-bytes2 .with-bytes2 .ensures) (c .fed .ensures)
 
--- src/piece.rt:76:5
 with-bytes-requires-3 : tie.Need-with-bytes-requires-3
 with-bytes-requires-3 c κs = search needs
 
--- src/piece.rt:62:1
 returns-4 : tie.Need-returns-4
 returns-4 c =
     let at-if3 = c .before in

@@ -4,35 +4,25 @@ use native.Mathlib.Omega.{arith}
 use borrow.Author.Needs.{needs}
 use Rattle.session.proofs.piece.is_runnable.Statement.{statement}
 use Rattle.session.proofs.piece.is_runnable.Tie as tie
-use Rattle.session.proofs.piece.is_runnable.Reads as reads
-use Rattle.session.proofs.piece.is_runnable.Lts as lts
-use Rattle.session.proofs.piece.may_open.Reads as may-open-reads
 
--- src/piece.rt:35:9
 returns : tie.Need-returns
 returns c = tells-no (λ h. omega arith)
 
--- src/piece.rt:37:9
 may-open-requires : tie.Need-may-open-requires
 may-open-requires c κs = search needs
 
--- src/piece.rt:38:9
 returns-2 : tie.Need-returns-2
 returns-2 c = tells-no (λ h. untold _ (c .before .may-open .ensures) (c .if2 .taken) (h .may-open))
 
--- src/piece.rt:41:9
 returns-3 : tie.Need-returns-3
 returns-3 c = tells-no (λ h. omega arith)
 
--- src/piece.rt:44:9
 returns-4 : tie.Need-returns-4
 returns-4 c = tells-no (λ h. omega arith)
 
--- src/piece.rt:47:9
 returns-5 : tie.Need-returns-5
 returns-5 c = tells-no (λ h. omega arith)
 
--- src/piece.rt:31:1
 returns-6 : tie.Need-returns-6
 returns-6 c =
     let at-if2 = c .before .before .before .before .before .before .before .before .before in

@@ -3,14 +3,10 @@ use Rattle.session.specs.Feeding.{tells-yes}
 use native.Mathlib.Omega.{arith}
 use Rattle.session.proofs.piece.may_open.Statement.{statement}
 use Rattle.session.proofs.piece.may_open.Tie as tie
-use Rattle.session.proofs.piece.may_open.Reads as reads
-use Rattle.session.proofs.piece.may_open.Lts as lts
 
--- src/piece.rt:25:9
 returns : tie.Need-returns
 returns c = tells-shallow (c .before .before .before .args .s) (c .before .if1 .taken)
 
--- src/piece.rt:21:1
 returns-2 : tie.Need-returns-2
 returns-2 c = tells-yes (λ e. absurd (omega arith))
 

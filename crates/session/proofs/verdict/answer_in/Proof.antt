@@ -7,35 +7,25 @@ use mathlib.Core.Path.{_≡_, sym, ap, _∙_}
 use borrow.Author.Needs.{needs}
 use Rattle.session.proofs.verdict.answer_in.Statement.{statement}
 use Rattle.session.proofs.verdict.answer_in.Tie as tie
-use Rattle.session.proofs.verdict.answer_in.Reads as reads
-use Rattle.session.proofs.verdict.answer_in.Lts as lts
-use Rattle.session.proofs.verdict.answer_now.Reads as answer-now-reads
-use Rattle.session.proofs.verdict.answered.Reads as answered-reads
 
--- src/verdict.rt:109:23
 cast-if1 : tie.Need-cast-if1
 cast-if1 c = search needs
 
--- src/verdict.rt:110:35
 cast-answered : tie.Need-cast-answered
 cast-answered c = search needs
 
--- src/verdict.rt:110:9
 answered-requires : tie.Need-answered-requires
 answered-requires c κs = search needs
 
--- src/verdict.rt:110:9
 returns : tie.Need-returns
 returns c =
     let at-if1 = c .before in
     let at-args = at-if1 .before .before in
     c .answered .ensures ∙ sym (ap (λ t. cond t (answer 1 65535 0 0) (cond (ltb (at-args .args .s .number) 14) (verdictNow (at-args .args .s)) (answer 2 0 0 0))) (lt-ltb 65535 (at-args .args .s .bytes) (at-if1 .if1 .taken)))
 
--- src/verdict.rt:113:9
 answer-now-requires : tie.Need-answer-now-requires
 answer-now-requires c κs = search needs
 
--- src/verdict.rt:113:9
 returns-2 : tie.Need-returns-2
 returns-2 c =
     let at-if2 = c .before in
@@ -43,11 +33,9 @@ returns-2 c =
     let at-args = at-if1 .before .before in
     c .answer-now .ensures ∙ sym (ap (λ t. cond t (answer 1 65535 0 0) (cond (ltb (at-args .args .s .number) 14) (verdictNow (at-args .args .s)) (answer 2 0 0 0))) (le-ltb 65535 (at-args .args .s .bytes) (at-if1 .if1 .left)) ∙ ap (λ t. cond t (verdictNow (at-args .args .s)) (answer 2 0 0 0)) (lt-ltb (at-args .args .s .number) 14 (at-if2 .if2 .taken)))
 
--- src/verdict.rt:115:5
 answered-requires-2 : tie.Need-answered-requires-2
 answered-requires-2 c κs = search needs
 
--- src/verdict.rt:106:1
 returns-3 : tie.Need-returns-3
 returns-3 c =
     let at-if2 = c .before in

@@ -7,27 +7,19 @@ use mathlib.Core.Path.{_≡_, sym, ap, _∙_}
 use borrow.Author.Needs.{needs}
 use Rattle.session.proofs.verdict.answer_now.Statement.{statement}
 use Rattle.session.proofs.verdict.answer_now.Tie as tie
-use Rattle.session.proofs.verdict.answer_now.Reads as reads
-use Rattle.session.proofs.verdict.answer_now.Lts as lts
-use Rattle.session.proofs.verdict.answered.Reads as answered-reads
-use Rattle.session.proofs.verdict.table_words.Reads as table-words-reads
 
--- src/verdict.rt:99:20
 table-words-requires : tie.Need-table-words-requires
 table-words-requires c κs = search needs
 
--- src/verdict.rt:95:9
 returns : tie.Need-returns
 returns c =
     let at-if1 = c .before in
     let at-args = at-if1 .before .before in
     ap {B = Answer} (λ w. answer 0 (at-args .args .s .bytes) (at-args .args .s .rows) w) (c .table-words .ensures) ∙ sym (ap (λ t. cond t (answer 0 (at-args .args .s .bytes) (at-args .args .s .rows) (at-args .args .s .words - at-args .args .s .rows - 4)) (answer (at-args .args .s .number) (at-args .args .s .offset) 0 0)) (eq-eqb (at-args .args .s .number) 0 (at-if1 .if1 .taken)))
 
--- src/verdict.rt:102:5
 answered-requires : tie.Need-answered-requires
 answered-requires c κs = search needs
 
--- src/verdict.rt:91:1
 returns-2 : tie.Need-returns-2
 returns-2 c =
     let at-if1 = c .before in

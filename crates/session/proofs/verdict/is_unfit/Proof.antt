@@ -5,22 +5,16 @@ use mathlib.Core.Path.{_≡_, sym, ap}
 use borrow.Author.Needs.{needs}
 use Rattle.session.proofs.verdict.is_unfit.Statement.{statement}
 use Rattle.session.proofs.verdict.is_unfit.Tie as tie
-use Rattle.session.proofs.verdict.is_unfit.Reads as reads
-use Rattle.session.proofs.verdict.is_unfit.Lts as lts
 
--- src/verdict.rt:71:9
 returns : tie.Need-returns
 returns c = sym (ap (λ t. t || ltb 65536 (c .before .before .args .s .bytes)) (lt-ltb 16 (c .before .before .args .s .depth) (c .if1 .taken)))
 
--- src/verdict.rt:73:5
 add-result : tie.Need-add-result
 add-result c = search needs
 
--- src/verdict.rt:73:24
 cast-result : tie.Need-cast-result
 cast-result c = search needs
 
--- src/verdict.rt:67:1
 returns-2 : tie.Need-returns-2
 returns-2 c =
     let at-if1 = c .before in

@@ -3,34 +3,22 @@ use mathlib.Core.Path.{_≡_, sym, _∙_}
 use borrow.Author.Needs.{needs}
 use Rattle.session.proofs.verdict.judged.Statement.{statement}
 use Rattle.session.proofs.verdict.judged.Tie as tie
-use Rattle.session.proofs.verdict.judged.Reads as reads
-use Rattle.session.proofs.verdict.judged.Lts as lts
-use Rattle.session.proofs.verdict.answer_in.Reads as answer-in-reads
-use Rattle.session.proofs.verdict.refused.Reads as refused-reads
-use Rattle.session.proofs.verdict.is_unfit.Reads as is-unfit-reads
-use Rattle.session.proofs.verdict.spent.Reads as spent-reads
 
--- src/verdict.rt:130:8
 is-unfit-requires : tie.Need-is-unfit-requires
 is-unfit-requires c κs = search needs
 
--- src/verdict.rt:133:21
 refused-requires : tie.Need-refused-requires
 refused-requires c κs = search needs
 
--- src/verdict.rt:131:9
 returns : tie.Need-returns
 returns c = verdicts-refused (sym (c .before .before .is-unfit .ensures) ∙ c .before .if1 .taken) (c .refused .ensures .0) (c .refused .ensures .1)
 
--- src/verdict.rt:137:18
 spent-requires : tie.Need-spent-requires
 spent-requires c κs = search needs
 
--- src/verdict.rt:138:17
 answer-in-requires : tie.Need-answer-in-requires
 answer-in-requires c κs = search needs
 
--- src/verdict.rt:127:1
 returns-2 : tie.Need-returns-2
 returns-2 c =
     let at-spent = c .before in

@@ -5,30 +5,19 @@ use mathlib.Core.Path.{refl, subst, sym}
 use borrow.Author.Needs.{needs}
 use Rattle.session_run.proofs.advance.advance.Statement.{statement}
 use Rattle.session_run.proofs.advance.advance.Tie as tie
-use Rattle.session_run.proofs.advance.advance.Reads as reads
-use Rattle.session_run.proofs.advance.advance.Lts as lts
-use Rattle.session_run.proofs.advance.after_run.Reads as after-run-reads
-use Rattle.session_run.proofs.advance.copied.Reads as copied-reads
-use Rattle.session_run.proofs.advance.place_of.Reads as place-of-reads
-use Rattle.session_run.proofs.run.run.Reads as run-reads
 
--- src/advance.rt:100:23
 copied-requires : tie.Need-copied-requires
 copied-requires c κs = search needs
 
--- src/advance.rt:101:24
 cast-run : tie.Need-cast-run
 cast-run c = search needs
 
--- src/advance.rt:101:42
 place-of-requires : tie.Need-place-of-requires
 place-of-requires c κs = search needs
 
--- src/advance.rt:101:55
 slice-aggregate-run : tie.Need-slice-aggregate-run
 slice-aggregate-run c = search needs
 
--- src/advance.rt:101:9
 run-requires : tie.Need-run-requires
 run-requires c κs =
     let at-place-of = c .before in
@@ -36,11 +25,9 @@ run-requires c κs =
     let at-args = at-copied .before .before .before in
     run-ready (at-args .args .s) (at-args .args .src .now) (at-args .args .base) (at-args .pre .0) (at-args .pre .1) (at-place-of .place-of .ensures) (at-copied .copied .result) (at-copied .copied .ensures .0)
 
--- src/advance.rt:104:18
 after-run-requires : tie.Need-after-run-requires
 after-run-requires c κs = search needs
 
--- src/advance.rt:95:1
 returns : tie.Need-returns
 returns c =
     let at-run = c .before .before in

@@ -3,27 +3,19 @@ use mathlib.Core.Path.{refl}
 use borrow.Author.Needs.{needs}
 use Rattle.session_run.proofs.advance.after_run.Statement.{statement}
 use Rattle.session_run.proofs.advance.after_run.Tie as tie
-use Rattle.session_run.proofs.advance.after_run.Reads as reads
-use Rattle.session_run.proofs.advance.after_run.Lts as lts
-use Rattle.session_run.proofs.advance.number_of.Reads as number-of-reads
 
--- src/advance.rt:63:17
 number-of-requires : tie.Need-number-of-requires
 number-of-requires c κs = search needs
 
--- src/advance.rt:64:18
 add-t9 : tie.Need-add-t9
 add-t9 c = search needs
 
--- src/advance.rt:64:17
 cast-t10 : tie.Need-cast-t10
 cast-t10 c = search needs
 
--- src/advance.rt:66:16
 cast-t11 : tie.Need-cast-t11
 cast-t11 c = search needs
 
--- src/advance.rt:52:1
 returns : tie.Need-returns
 returns c =
     let at-number-of = c .before .before in

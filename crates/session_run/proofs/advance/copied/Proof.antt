@@ -6,8 +6,6 @@ use borrow.Author.Needs.{needs}
 use Rattle.pieces.specs.HeldLaws.{filled-on}
 use Rattle.session_run.proofs.advance.copied.Statement.{statement}
 use Rattle.session_run.proofs.advance.copied.Tie as tie
-use Rattle.session_run.proofs.advance.copied.Reads as reads
-use Rattle.session_run.proofs.advance.copied.Lts as lts
 
 abbrev Inv-loop : tie.InvT-loop
 Inv-loop old members₀ i₀ members i = (i ≤ 16) × (length members ≡ 16) × ((k : ℕ) → k < i → getD members k 0 ≡ getD old k 0)
@@ -15,42 +13,33 @@ Inv-loop old members₀ i₀ members i = (i ≤ 16) × (length members ≡ 16) �
 abbrev μ-loop : tie.MeasureT-loop
 μ-loop old members₀ i₀ members i = 16 - i
 
--- src/advance.rt:74:5
 loop-holds : tie.Need-loop-holds Inv-loop μ-loop
 loop-holds c = (omega arith, refl, λ k less. absurd (omega arith))
 
--- src/advance.rt:75:22
 mul-members : tie.Need-mul-members Inv-loop μ-loop
 mul-members c = search needs
 
--- src/advance.rt:75:22
 array-read-members : tie.Need-array-read-members Inv-loop μ-loop
 array-read-members c = search needs
 
--- src/advance.rt:75:9
 mul-members-2 : tie.Need-mul-members-2 Inv-loop μ-loop
 mul-members-2 c = search needs
 
--- src/advance.rt:75:9
 array-write-members : tie.Need-array-write-members Inv-loop μ-loop
 array-write-members c = search needs
 
--- src/advance.rt:76:13
 add-i : tie.Need-add-i Inv-loop μ-loop
 add-i c = omega arith
 
--- src/advance.rt:74:5
 loop-less : tie.Need-loop-less Inv-loop μ-loop
 loop-less c = omega arith
 
--- src/advance.rt:74:5
 loop-again : tie.Need-loop-again Inv-loop μ-loop
 loop-again c =
     let at-loop = c .before in
     let at-args = at-loop .before in
     let i = at-loop .loop .i in let ms = at-loop .loop .members in let sized = at-loop .loop .inv .1 in (omega arith, length-set ms i (getD (at-args .args .t1) i 0) ∙ sized, filled-on (λ k. getD (at-args .args .t1) k 0) ms i (omega arith) (at-loop .loop .inv .2))
 
--- src/advance.rt:69:1
 returns : tie.Need-returns Inv-loop μ-loop
 returns c = (c .before .loop .inv .1, λ k less. c .before .loop .inv .2 k (omega arith))
 

@@ -4,18 +4,13 @@ use mathlib.Core.Path.{sym, ap}
 use borrow.Author.Needs.{needs}
 use Rattle.session_run.proofs.advance.number_of.Statement.{statement}
 use Rattle.session_run.proofs.advance.number_of.Tie as tie
-use Rattle.session_run.proofs.advance.number_of.Reads as reads
-use Rattle.session_run.proofs.advance.number_of.Lts as lts
 
--- src/advance.rt:46:16
 cast-result : tie.Need-cast-result
 cast-result c = search needs
 
--- src/advance.rt:46:9
 returns : tie.Need-returns
 returns c = sym (ap (λ t. cond t (c .before .args .number) 2) (lt-ltb (c .before .args .number) 14 (c .if1 .taken)))
 
--- src/advance.rt:42:1
 returns-2 : tie.Need-returns-2
 returns-2 c = sym (ap (λ t. cond t (c .before .args .number) 2) (le-ltb (c .before .args .number) 14 (c .if1 .left)))
 

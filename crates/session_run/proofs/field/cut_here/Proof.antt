@@ -3,15 +3,10 @@ use mathlib.Core.Path.{ap}
 use borrow.Author.Needs.{needs}
 use Rattle.session_run.proofs.field.cut_here.Statement.{statement}
 use Rattle.session_run.proofs.field.cut_here.Tie as tie
-use Rattle.session_run.proofs.field.cut_here.Reads as reads
-use Rattle.session_run.proofs.field.cut_here.Lts as lts
-use Rattle.from_file.proofs.prims.refusal.Reads as refusal-reads
 
--- src/field.rt:52:15
 refusal-requires : tie.Need-refusal-requires
 refusal-requires c κs = search needs
 
--- src/field.rt:46:1
 returns : tie.Need-returns
 returns c = ap {B = FieldPass} (λ p. record { value = 0; pass = p }) (c .refusal .ensures)
 

@@ -8,22 +8,13 @@ use mathlib.Core.Path.{refl}
 use borrow.Author.Needs.{needs}
 use Rattle.session_run.proofs.field.double.Statement.{statement}
 use Rattle.session_run.proofs.field.double.Tie as tie
-use Rattle.session_run.proofs.field.double.Reads as reads
-use Rattle.session_run.proofs.field.double.Lts as lts
-use Rattle.from_file.proofs.prims.get.Reads as get-reads
-use Rattle.from_file.proofs.prims.there.Reads as there-reads
-use Rattle.session_run.proofs.field.cut_here.Reads as cut-here-reads
-use Rattle.session_run.proofs.field.told.Reads as told-reads
 
--- src/field.rt:62:8
 there-requires : tie.Need-there-requires
 there-requires c κs = search needs
 
--- src/field.rt:63:35
 get-requires : tie.Need-get-requires
 get-requires c κs = (refl, c .before .there .ensures .yes (c .if1 .taken))
 
--- src/field.rt:63:9
 told-requires : tie.Need-told-requires
 told-requires c κs =
     let at-if1 = c .before in
@@ -31,7 +22,6 @@ told-requires c κs =
     let at-pre = at-there .before .before in
     let short = at-pre .pre .0 .short in let yes = at-there .there .ensures .yes (at-if1 .if1 .taken) in let few = at-pre .pre .0 .few (omega arith) in (omega arith, omega arith)
 
--- src/field.rt:63:9
 returns : tie.Need-returns
 returns c =
     let at-get = c .before in
@@ -41,11 +31,9 @@ returns c =
     let at-args = at-shared-slice-known .before in
     told-there {R = Unit {0}} F.double refl (omega arith) (omega arith) (known-below w8 (at-args .args .src .now) (at-shared-slice-known .shared-slice-known .given)) (at-args .pre .0) (at-args .pre .1) (at-there .there .ensures .yes (at-if1 .if1 .taken)) (at-get .get .ensures .0) refl (c .told .ensures)
 
--- src/field.rt:65:5
 cut-here-requires : tie.Need-cut-here-requires
 cut-here-requires c κs = search needs
 
--- src/field.rt:57:1
 returns-2 : tie.Need-returns-2
 returns-2 c =
     let at-if1 = c .before in

@@ -3,14 +3,10 @@ use borrow.Author.Tests.{eq-eqb, ne-eqb}
 use mathlib.Core.Path.{ap, sym}
 use Rattle.session_run.proofs.field.length_fault.Statement.{statement}
 use Rattle.session_run.proofs.field.length_fault.Tie as tie
-use Rattle.session_run.proofs.field.length_fault.Reads as reads
-use Rattle.session_run.proofs.field.length_fault.Lts as lts
 
--- src/field.rt:107:9
 returns : tie.Need-returns
 returns c = sym (ap (λ t. unless t 4) (eq-eqb (c .before .args .length) 3 (c .if1 .taken)))
 
--- src/field.rt:103:1
 returns-2 : tie.Need-returns-2
 returns-2 c = sym (ap (λ t. unless t 4) (ne-eqb (c .before .args .length) 3 (c .if1 .left)))
 

@@ -8,27 +8,16 @@ use mathlib.Core.Path.{refl}
 use borrow.Author.Needs.{needs}
 use Rattle.session_run.proofs.field.magic.Statement.{statement}
 use Rattle.session_run.proofs.field.magic.Tie as tie
-use Rattle.session_run.proofs.field.magic.Reads as reads
-use Rattle.session_run.proofs.field.magic.Lts as lts
-use Rattle.from_file.proofs.prims.there.Reads as there-reads
-use Rattle.reader.proofs.head.chars_at.Reads as chars-at-reads
-use Rattle.session_run.proofs.field.cut_here.Reads as cut-here-reads
-use Rattle.session_run.proofs.field.magic_fault.Reads as magic-fault-reads
-use Rattle.session_run.proofs.field.told.Reads as told-reads
 
--- src/field.rt:138:8
 there-requires : tie.Need-there-requires
 there-requires c κs = search needs
 
--- src/field.rt:139:13
 chars-at-requires : tie.Need-chars-at-requires
 chars-at-requires c κs = c .before .there .ensures .yes (c .if1 .taken)
 
--- src/field.rt:140:42
 magic-fault-requires : tie.Need-magic-fault-requires
 magic-fault-requires c κs = search needs
 
--- src/field.rt:140:9
 told-requires : tie.Need-told-requires
 told-requires c κs =
     let at-if1 = c .before .before in
@@ -36,7 +25,6 @@ told-requires c κs =
     let at-pre = at-there .before .before in
     let short = at-pre .pre .0 .short in let yes = at-there .there .ensures .yes (at-if1 .if1 .taken) in let few = at-pre .pre .0 .few (omega arith) in (omega arith, omega arith)
 
--- src/field.rt:140:9
 returns : tie.Need-returns
 returns c =
     let at-magic-fault = c .before in
@@ -47,11 +35,9 @@ returns c =
     let at-args = at-shared-slice-known .before in
     told-there {R = ℕ} F.magic refl (omega arith) (omega arith) (known-below w8 (at-args .args .src .now) (at-shared-slice-known .shared-slice-known .given)) (at-args .pre .0) (at-args .pre .1) (at-there .there .ensures .yes (at-if1 .if1 .taken)) (at-chars-at .chars-at .ensures) (at-magic-fault .magic-fault .ensures) (c .told .ensures)
 
--- src/field.rt:142:5
 cut-here-requires : tie.Need-cut-here-requires
 cut-here-requires c κs = search needs
 
--- src/field.rt:133:1
 returns-2 : tie.Need-returns-2
 returns-2 c =
     let at-if1 = c .before in

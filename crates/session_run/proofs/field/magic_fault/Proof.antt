@@ -3,14 +3,10 @@ use borrow.Author.Tests.{eq-eqb, ne-eqb}
 use mathlib.Core.Path.{ap, sym}
 use Rattle.session_run.proofs.field.magic_fault.Statement.{statement}
 use Rattle.session_run.proofs.field.magic_fault.Tie as tie
-use Rattle.session_run.proofs.field.magic_fault.Reads as reads
-use Rattle.session_run.proofs.field.magic_fault.Lts as lts
 
--- src/field.rt:128:9
 returns : tie.Need-returns
 returns c = sym (ap (λ t. unless t 3) (eq-eqb (c .before .args .chars) 317832036434 (c .if1 .taken)))
 
--- src/field.rt:124:1
 returns-2 : tie.Need-returns-2
 returns-2 c = sym (ap (λ t. unless t 3) (ne-eqb (c .before .args .chars) 317832036434 (c .if1 .left)))
 

@@ -9,27 +9,16 @@ use mathlib.Core.Path.{refl}
 use borrow.Author.Needs.{needs}
 use Rattle.session_run.proofs.field.object_id.Statement.{statement}
 use Rattle.session_run.proofs.field.object_id.Tie as tie
-use Rattle.session_run.proofs.field.object_id.Reads as reads
-use Rattle.session_run.proofs.field.object_id.Lts as lts
-use Rattle.fields.proofs.letters.object_fault.Reads as object-fault-reads
-use Rattle.from_file.proofs.prims.get.Reads as get-reads
-use Rattle.from_file.proofs.prims.there.Reads as there-reads
-use Rattle.session_run.proofs.field.cut_here.Reads as cut-here-reads
-use Rattle.session_run.proofs.field.told.Reads as told-reads
 
--- src/field.rt:74:8
 there-requires : tie.Need-there-requires
 there-requires c κs = search needs
 
--- src/field.rt:75:13
 get-requires : tie.Need-get-requires
 get-requires c κs = (refl, c .before .there .ensures .yes (c .if1 .taken))
 
--- src/field.rt:76:43
 object-fault-requires : tie.Need-object-fault-requires
 object-fault-requires c κs = search needs
 
--- src/field.rt:76:9
 told-requires : tie.Need-told-requires
 told-requires c κs =
     let at-if1 = c .before .before in
@@ -37,7 +26,6 @@ told-requires c κs =
     let at-pre = at-there .before .before in
     let short = at-pre .pre .0 .short in let yes = at-there .there .ensures .yes (at-if1 .if1 .taken) in let few = at-pre .pre .0 .few (omega arith) in (omega arith, omega arith)
 
--- src/field.rt:76:9
 returns : tie.Need-returns
 returns c =
     let at-object-fault = c .before in
@@ -48,11 +36,9 @@ returns c =
     let at-args = at-shared-slice-known .before in
     told-there {R = ℕ} (F.objectId (isLeaf (at-args .args .version)) (at-args .args .deeper)) refl (omega arith) (omega arith) (known-below w8 (at-args .args .src .now) (at-shared-slice-known .shared-slice-known .given)) (at-args .pre .0) (at-args .pre .1) (at-there .there .ensures .yes (at-if1 .if1 .taken)) (at-get .get .ensures .0) (at-object-fault .object-fault .ensures) (c .told .ensures)
 
--- src/field.rt:78:5
 cut-here-requires : tie.Need-cut-here-requires
 cut-here-requires c κs = search needs
 
--- src/field.rt:69:1
 returns-2 : tie.Need-returns-2
 returns-2 c =
     let at-if1 = c .before in

@@ -1,6 +1,5 @@
 use Rattle.reader.specs.OuterLaws.{outerId}
 use Rattle.session_run.specs.Told.{told-cut, told-there}
-use Rattle.drawing.specs.Fields as F
 use Rattle.format.specs.LeafLaws.{known-below}
 use mir.Syntax.{w8}
 use Prim.Native.Nat.{ℕ}
@@ -9,27 +8,16 @@ use mathlib.Core.Path.{refl}
 use borrow.Author.Needs.{needs}
 use Rattle.session_run.proofs.field.outer_id.Statement.{statement}
 use Rattle.session_run.proofs.field.outer_id.Tie as tie
-use Rattle.session_run.proofs.field.outer_id.Reads as reads
-use Rattle.session_run.proofs.field.outer_id.Lts as lts
-use Rattle.from_file.proofs.prims.get.Reads as get-reads
-use Rattle.from_file.proofs.prims.there.Reads as there-reads
-use Rattle.session_run.proofs.field.cut_here.Reads as cut-here-reads
-use Rattle.session_run.proofs.field.group_fault.Reads as group-fault-reads
-use Rattle.session_run.proofs.field.told.Reads as told-reads
 
--- src/field.rt:96:8
 there-requires : tie.Need-there-requires
 there-requires c κs = search needs
 
--- src/field.rt:97:13
 get-requires : tie.Need-get-requires
 get-requires c κs = (refl, c .before .there .ensures .yes (c .if1 .taken))
 
--- src/field.rt:98:43
 group-fault-requires : tie.Need-group-fault-requires
 group-fault-requires c κs = search needs
 
--- src/field.rt:98:9
 told-requires : tie.Need-told-requires
 told-requires c κs =
     let at-if1 = c .before .before in
@@ -37,7 +25,6 @@ told-requires c κs =
     let at-pre = at-there .before .before in
     let short = at-pre .pre .0 .short in let yes = at-there .there .ensures .yes (at-if1 .if1 .taken) in let few = at-pre .pre .0 .few (omega arith) in (omega arith, omega arith)
 
--- src/field.rt:98:9
 returns : tie.Need-returns
 returns c =
     let at-group-fault = c .before in
@@ -48,11 +35,9 @@ returns c =
     let at-args = at-shared-slice-known .before in
     told-there {R = ℕ} outerId refl (omega arith) (omega arith) (known-below w8 (at-args .args .src .now) (at-shared-slice-known .shared-slice-known .given)) (at-args .pre .0) (at-args .pre .1) (at-there .there .ensures .yes (at-if1 .if1 .taken)) (at-get .get .ensures .0) (at-group-fault .group-fault .ensures) (c .told .ensures)
 
--- src/field.rt:100:5
 cut-here-requires : tie.Need-cut-here-requires
 cut-here-requires c κs = search needs
 
--- src/field.rt:91:1
 returns-2 : tie.Need-returns-2
 returns-2 c =
     let at-if1 = c .before in

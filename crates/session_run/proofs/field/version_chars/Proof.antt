@@ -8,27 +8,16 @@ use mathlib.Core.Path.{refl}
 use borrow.Author.Needs.{needs}
 use Rattle.session_run.proofs.field.version_chars.Statement.{statement}
 use Rattle.session_run.proofs.field.version_chars.Tie as tie
-use Rattle.session_run.proofs.field.version_chars.Reads as reads
-use Rattle.session_run.proofs.field.version_chars.Lts as lts
-use Rattle.from_file.proofs.prims.there.Reads as there-reads
-use Rattle.reader.proofs.head.chars_at.Reads as chars-at-reads
-use Rattle.session_run.proofs.field.cut_here.Reads as cut-here-reads
-use Rattle.session_run.proofs.field.told.Reads as told-reads
-use Rattle.session_run.proofs.field.version_fault.Reads as version-fault-reads
 
--- src/field.rt:162:8
 there-requires : tie.Need-there-requires
 there-requires c κs = search needs
 
--- src/field.rt:163:13
 chars-at-requires : tie.Need-chars-at-requires
 chars-at-requires c κs = c .before .there .ensures .yes (c .if1 .taken)
 
--- src/field.rt:164:42
 version-fault-requires : tie.Need-version-fault-requires
 version-fault-requires c κs = search needs
 
--- src/field.rt:164:9
 told-requires : tie.Need-told-requires
 told-requires c κs =
     let at-if1 = c .before .before in
@@ -36,7 +25,6 @@ told-requires c κs =
     let at-pre = at-there .before .before in
     let short = at-pre .pre .0 .short in let yes = at-there .there .ensures .yes (at-if1 .if1 .taken) in let few = at-pre .pre .0 .few (omega arith) in (omega arith, omega arith)
 
--- src/field.rt:164:9
 returns : tie.Need-returns
 returns c =
     let at-version-fault = c .before in
@@ -47,11 +35,9 @@ returns c =
     let at-args = at-shared-slice-known .before in
     told-there {R = ℕ} F.versionChars refl (omega arith) (omega arith) (known-below w8 (at-args .args .src .now) (at-shared-slice-known .shared-slice-known .given)) (at-args .pre .0) (at-args .pre .1) (at-there .there .ensures .yes (at-if1 .if1 .taken)) (at-chars-at .chars-at .ensures) (at-version-fault .version-fault .ensures) (c .told .ensures)
 
--- src/field.rt:166:5
 cut-here-requires : tie.Need-cut-here-requires
 cut-here-requires c κs = search needs
 
--- src/field.rt:157:1
 returns-2 : tie.Need-returns-2
 returns-2 c =
     let at-if1 = c .before in

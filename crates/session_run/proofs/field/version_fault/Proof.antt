@@ -5,21 +5,16 @@ use mathlib.Core.Bool.{_&&_}
 use mathlib.Core.Path.{ap, sym, _∙_}
 use Rattle.session_run.proofs.field.version_fault.Statement.{statement}
 use Rattle.session_run.proofs.field.version_fault.Tie as tie
-use Rattle.session_run.proofs.field.version_fault.Reads as reads
-use Rattle.session_run.proofs.field.version_fault.Lts as lts
 
--- src/field.rt:149:9
 returns : tie.Need-returns
 returns c = sym (ap (λ t. unless (t && leb (c .before .args .chars) 210456412213) 4) (lt-leb 210456412208 (c .before .args .chars) (c .if1 .taken)))
 
--- src/field.rt:152:9
 returns-2 : tie.Need-returns-2
 returns-2 c =
     let at-if1 = c .before in
     let at-args = at-if1 .before in
     sym (ap (λ t. unless (t && leb (at-args .args .chars) 210456412213) 4) (le-leb 210456412208 (at-args .args .chars) (at-if1 .if1 .left)) ∙ ap (λ t. unless t 4) (lt-leb (at-args .args .chars) 210456412213 (c .if2 .taken)))
 
--- src/field.rt:145:1
 returns-3 : tie.Need-returns-3
 returns-3 c =
     let at-if1 = c .before in

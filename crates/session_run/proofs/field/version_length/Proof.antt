@@ -8,27 +8,16 @@ use mathlib.Core.Path.{refl}
 use borrow.Author.Needs.{needs}
 use Rattle.session_run.proofs.field.version_length.Statement.{statement}
 use Rattle.session_run.proofs.field.version_length.Tie as tie
-use Rattle.session_run.proofs.field.version_length.Reads as reads
-use Rattle.session_run.proofs.field.version_length.Lts as lts
-use Rattle.from_file.proofs.prims.get.Reads as get-reads
-use Rattle.from_file.proofs.prims.there.Reads as there-reads
-use Rattle.session_run.proofs.field.cut_here.Reads as cut-here-reads
-use Rattle.session_run.proofs.field.length_fault.Reads as length-fault-reads
-use Rattle.session_run.proofs.field.told.Reads as told-reads
 
--- src/field.rt:117:8
 there-requires : tie.Need-there-requires
 there-requires c κs = search needs
 
--- src/field.rt:118:13
 get-requires : tie.Need-get-requires
 get-requires c κs = (refl, c .before .there .ensures .yes (c .if1 .taken))
 
--- src/field.rt:119:43
 length-fault-requires : tie.Need-length-fault-requires
 length-fault-requires c κs = search needs
 
--- src/field.rt:119:9
 told-requires : tie.Need-told-requires
 told-requires c κs =
     let at-if1 = c .before .before in
@@ -36,7 +25,6 @@ told-requires c κs =
     let at-pre = at-there .before .before in
     let short = at-pre .pre .0 .short in let yes = at-there .there .ensures .yes (at-if1 .if1 .taken) in let few = at-pre .pre .0 .few (omega arith) in (omega arith, omega arith)
 
--- src/field.rt:119:9
 returns : tie.Need-returns
 returns c =
     let at-length-fault = c .before in
@@ -47,11 +35,9 @@ returns c =
     let at-args = at-shared-slice-known .before in
     told-there {R = ℕ} F.versionLength refl (omega arith) (omega arith) (known-below w8 (at-args .args .src .now) (at-shared-slice-known .shared-slice-known .given)) (at-args .pre .0) (at-args .pre .1) (at-there .there .ensures .yes (at-if1 .if1 .taken)) (at-get .get .ensures .0) (at-length-fault .length-fault .ensures) (c .told .ensures)
 
--- src/field.rt:121:5
 cut-here-requires : tie.Need-cut-here-requires
 cut-here-requires c κs = search needs
 
--- src/field.rt:112:1
 returns-2 : tie.Need-returns-2
 returns-2 c =
     let at-if1 = c .before in

@@ -4,55 +4,39 @@ use mathlib.Core.Path.{_≡_, refl, ap, _∙_}
 use borrow.Author.Needs.{needs}
 use Rattle.session_run.proofs.place.around_step.Statement.{statement}
 use Rattle.session_run.proofs.place.around_step.Tie as tie
-use Rattle.session_run.proofs.place.around_step.Reads as reads
-use Rattle.session_run.proofs.place.around_step.Lts as lts
-use Rattle.session_run.proofs.place.object_step.Reads as object-step-reads
-use Rattle.session_run.proofs.place.parts_only.Reads as parts-only-reads
-use Rattle.session_run.proofs.step.end_step.Reads as end-step-reads
 
--- src/place.rt:270:18
 sub-inner : tie.Need-sub-inner
 sub-inner c = search needs
 
--- src/place.rt:270:17
 cast-inner : tie.Need-cast-inner
 cast-inner c = search needs
 
--- src/place.rt:271:8
 mul-if1 : tie.Need-mul-if1
 mul-if1 c = search needs
 
--- src/place.rt:271:8
 slice-read-if1 : tie.Need-slice-read-if1
 slice-read-if1 c = search needs
 
--- src/place.rt:272:9
 object-step-requires : tie.Need-object-step-requires
 object-step-requires c κs = search needs
 
--- src/place.rt:272:9
 same-length : tie.Need-same-length
 same-length c = search needs
 
--- src/place.rt:272:9
 returns : tie.Need-returns
 returns c = search needs
 
--- src/place.rt:275:52
 parts-only-requires : tie.Need-parts-only-requires
 parts-only-requires c κs = search needs
 
--- src/place.rt:275:9
 end-step-requires : tie.Need-end-step-requires
 end-step-requires c κs =
     let at-pre = c .before .before .before .before .before .before .before in
     (at-pre .pre .0, (at-pre .pre .1 .0 .0, end-next (at-pre .args .p .inside) (c .parts-only .ensures)))
 
--- src/place.rt:281:20
 sub-t10 : tie.Need-sub-t10
 sub-t10 c = search needs
 
--- src/place.rt:264:1
 returns-2 : tie.Need-returns-2
 returns-2 c =
     let at-end-step = c .before .before in

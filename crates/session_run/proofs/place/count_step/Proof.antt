@@ -2,7 +2,6 @@ use Rattle.session_run.specs.Objects.{count-counted, count-went, place-g
 use Rattle.session_run.specs.Steps.{steps-same, field-steps}
 use Rattle.session_run.specs.declared.place.Place.{Place}
 use Rattle.session_run.specs.declared.place.PlaceStep.{PlaceStep}
-use Rattle.drawing.specs.Fields as F
 use Rattle.format.specs.LeafLaws.{known-below}
 use Rattle.format.specs.Kind as K
 use mir.Syntax.{w8}
@@ -11,25 +10,16 @@ use mathlib.Core.Path.{_≡_, refl, ap, _∙_}
 use borrow.Author.Needs.{needs}
 use Rattle.session_run.proofs.place.count_step.Statement.{statement}
 use Rattle.session_run.proofs.place.count_step.Tie as tie
-use Rattle.session_run.proofs.place.count_step.Reads as reads
-use Rattle.session_run.proofs.place.count_step.Lts as lts
-use Rattle.from_file.proofs.field.count.Reads as count-reads
-use Rattle.session_run.proofs.place.parts_only.Reads as parts-only-reads
-use Rattle.session_run.proofs.place.placed.Reads as placed-reads
 
--- src/place.rt:190:32
 slice-aggregate-count : tie.Need-slice-aggregate-count
 slice-aggregate-count c = search needs
 
--- src/place.rt:190:9
 count-requires : tie.Need-count-requires
 count-requires c κs = search needs
 
--- src/place.rt:193:9
 placed-requires : tie.Need-placed-requires
 placed-requires c κs = search needs
 
--- src/place.rt:193:9
 returns : tie.Need-returns
 returns c =
     let at-if1 = c .before in
@@ -38,39 +28,30 @@ returns c =
     let at-args = at-shared-slice-known .before in
     place-gone (at-if1 .if1 .taken) (count-counted (at-args .args .p) (at-args .args .members .now) (at-args .pre .1 .1) (let full = at-args .pre .1 .3 in let less = at-args .pre .1 .2 in omega arith) (known-below w8 (at-args .args .src .now) (at-shared-slice-known .shared-slice-known .given)) (at-args .pre .1 .0) (at-count .count .ensures .asks K.integer refl refl)) (c .placed .ensures)
 
--- src/place.rt:195:17
 cast-depth : tie.Need-cast-depth
 cast-depth c = search needs
 
--- src/place.rt:196:22
 cast-members : tie.Need-cast-members
 cast-members c = search needs
 
--- src/place.rt:196:5
 mul-members : tie.Need-mul-members
 mul-members c = search needs
 
--- src/place.rt:196:5
 slice-write-members : tie.Need-slice-write-members
 slice-write-members c = search needs
 
--- src/place.rt:201:16
 add-t17 : tie.Need-add-t17
 add-t17 c = search needs
 
--- src/place.rt:203:17
 parts-only-requires : tie.Need-parts-only-requires
 parts-only-requires c κs = search needs
 
--- src/place.rt:205:5
 placed-requires-2 : tie.Need-placed-requires-2
 placed-requires-2 c κs = search needs
 
--- src/place.rt:184:1
 same-length : tie.Need-same-length
 same-length c = search needs
 
--- src/place.rt:184:1
 returns-2 : tie.Need-returns-2
 returns-2 c =
     let at-parts-only = c .before in

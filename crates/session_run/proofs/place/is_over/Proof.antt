@@ -4,23 +4,16 @@ use native.Mathlib.Omega.{arith}
 use borrow.Author.Needs.{needs}
 use Rattle.session_run.proofs.place.is_over.Statement.{statement}
 use Rattle.session_run.proofs.place.is_over.Tie as tie
-use Rattle.session_run.proofs.place.is_over.Reads as reads
-use Rattle.session_run.proofs.place.is_over.Lts as lts
-use Rattle.session_run.proofs.place.is_open.Reads as is-open-reads
 
--- src/place.rt:327:9
 returns : tie.Need-returns
 returns c = over-not (λ o. c .if1 .taken (o .objects-now))
 
--- src/place.rt:330:9
 returns-2 : tie.Need-returns-2
 returns-2 c = over-not (λ o. c .if2 .taken (o .none-open))
 
--- src/place.rt:333:6
 is-open-requires : tie.Need-is-open-requires
 is-open-requires c κs = search needs
 
--- src/place.rt:323:1
 returns-3 : tie.Need-returns-3
 returns-3 c =
     let at-if2 = c .before .before in

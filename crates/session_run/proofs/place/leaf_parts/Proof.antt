@@ -3,18 +3,13 @@ use mathlib.Core.Bool.{cond}
 use mathlib.Core.Path.{_≡_, refl, sym, ap, _∙_}
 use Rattle.session_run.proofs.place.leaf_parts.Statement.{statement}
 use Rattle.session_run.proofs.place.leaf_parts.Tie as tie
-use Rattle.session_run.proofs.place.leaf_parts.Reads as reads
-use Rattle.session_run.proofs.place.leaf_parts.Lts as lts
 
--- src/place.rt:213:9
 returns : tie.Need-returns
 returns c = leaf-number (c .before .args .version) (c .before .args .letter) .0 (c .if1 .taken)
 
--- src/place.rt:216:9
 returns-2 : tie.Need-returns-2
 returns-2 c = leaf-number (c .before .before .args .version) (c .before .before .args .letter) .1 (c .before .if1 .left) (c .if2 .taken)
 
--- src/place.rt:219:9
 returns-3 : tie.Need-returns-3
 returns-3 c =
     let at-if2 = c .before in
@@ -22,7 +17,6 @@ returns-3 c =
     let at-args = at-if1 .before in
     leaf-number (at-args .args .version) (at-args .args .letter) .2 (at-if1 .if1 .left) (at-if2 .if2 .left) (c .if3 .taken)
 
--- src/place.rt:222:9
 returns-4 : tie.Need-returns-4
 returns-4 c =
     let at-if3 = c .before in
@@ -31,7 +25,6 @@ returns-4 c =
     let at-args = at-if1 .before in
     leaf-number (at-args .args .version) (at-args .args .letter) .3 (at-if1 .if1 .left) (at-if2 .if2 .left) (at-if3 .if3 .left) (c .if4 .taken)
 
--- src/place.rt:209:1
 returns-5 : tie.Need-returns-5
 returns-5 c =
     let at-if3 = c .before in

@@ -7,25 +7,16 @@ use mathlib.Core.Path.{ap, _∙_}
 use borrow.Author.Needs.{needs}
 use Rattle.session_run.proofs.place.length_step.Statement.{statement}
 use Rattle.session_run.proofs.place.length_step.Tie as tie
-use Rattle.session_run.proofs.place.length_step.Reads as reads
-use Rattle.session_run.proofs.place.length_step.Lts as lts
-use Rattle.session_run.proofs.field.version_length.Reads as version-length-reads
-use Rattle.session_run.proofs.place.at_stage.Reads as at-stage-reads
-use Rattle.session_run.proofs.place.placed.Reads as placed-reads
 
--- src/place.rt:114:9
 version-length-requires : tie.Need-version-length-requires
 version-length-requires c κs = search needs
 
--- src/place.rt:115:12
 at-stage-requires : tie.Need-at-stage-requires
 at-stage-requires c κs = search needs
 
--- src/place.rt:115:5
 placed-requires : tie.Need-placed-requires
 placed-requires c κs = search needs
 
--- src/place.rt:109:1
 returns : tie.Need-returns
 returns c =
     let at-at-stage = c .before in

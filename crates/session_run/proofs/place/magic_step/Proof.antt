@@ -7,25 +7,16 @@ use mathlib.Core.Path.{ap, _∙_}
 use borrow.Author.Needs.{needs}
 use Rattle.session_run.proofs.place.magic_step.Statement.{statement}
 use Rattle.session_run.proofs.place.magic_step.Tie as tie
-use Rattle.session_run.proofs.place.magic_step.Reads as reads
-use Rattle.session_run.proofs.place.magic_step.Lts as lts
-use Rattle.session_run.proofs.field.magic.Reads as magic-reads
-use Rattle.session_run.proofs.place.at_stage.Reads as at-stage-reads
-use Rattle.session_run.proofs.place.placed.Reads as placed-reads
 
--- src/place.rt:105:9
 magic-requires : tie.Need-magic-requires
 magic-requires c κs = search needs
 
--- src/place.rt:106:12
 at-stage-requires : tie.Need-at-stage-requires
 at-stage-requires c κs = search needs
 
--- src/place.rt:106:5
 placed-requires : tie.Need-placed-requires
 placed-requires c κs = search needs
 
--- src/place.rt:100:1
 returns : tie.Need-returns
 returns c =
     let at-at-stage = c .before in

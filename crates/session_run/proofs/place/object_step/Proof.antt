@@ -5,23 +5,13 @@ use mathlib.Core.Path.{_≡_, refl, ap, _∙_}
 use borrow.Author.Needs.{needs}
 use Rattle.session_run.proofs.place.object_step.Statement.{statement}
 use Rattle.session_run.proofs.place.object_step.Tie as tie
-use Rattle.session_run.proofs.place.object_step.Reads as reads
-use Rattle.session_run.proofs.place.object_step.Lts as lts
-use Rattle.session_run.proofs.field.object_id.Reads as object-id-reads
-use Rattle.session_run.proofs.place.leaf_parts.Reads as leaf-parts-reads
-use Rattle.session_run.proofs.place.parts_only.Reads as parts-only-reads
-use Rattle.session_run.proofs.place.placed.Reads as placed-reads
-use Rattle.session_run.proofs.place.row_more.Reads as row-more-reads
 
--- src/place.rt:248:9
 object-id-requires : tie.Need-object-id-requires
 object-id-requires c κs = search needs
 
--- src/place.rt:251:9
 placed-requires : tie.Need-placed-requires
 placed-requires c κs = search needs
 
--- src/place.rt:251:9
 returns : tie.Need-returns
 returns c =
     let at-if1 = c .before in
@@ -29,47 +19,36 @@ returns c =
     let at-args = at-object-id .before .before .before .before in
     place-gone (at-if1 .if1 .taken) (id-steps (at-args .args .p) (at-args .args .members .now) (at-args .pre .1 .0 .1) (between-done (at-args .args .p) (at-args .pre .1 .0 .2)) (at-args .pre .1 .1 .0) (at-args .pre .1 .1 .1) (at-args .pre .1 .0 .5) (at-args .pre .1 .0 .3) (at-object-id .object-id .ensures)) (c .placed .ensures)
 
--- src/place.rt:253:18
 sub-inner : tie.Need-sub-inner
 sub-inner c = search needs
 
--- src/place.rt:253:17
 cast-inner : tie.Need-cast-inner
 cast-inner c = search needs
 
--- src/place.rt:254:22
 mul-members : tie.Need-mul-members
 mul-members c = search needs
 
--- src/place.rt:254:22
 slice-read-members : tie.Need-slice-read-members
 slice-read-members c = search needs
 
--- src/place.rt:254:22
 sub-members : tie.Need-sub-members
 sub-members c = search needs
 
--- src/place.rt:254:5
 mul-members-2 : tie.Need-mul-members-2
 mul-members-2 c = search needs
 
--- src/place.rt:254:5
 slice-write-members : tie.Need-slice-write-members
 slice-write-members c = search needs
 
--- src/place.rt:257:23
 row-more-requires : tie.Need-row-more-requires
 row-more-requires c κs = search needs
 
--- src/place.rt:257:9
 placed-requires-2 : tie.Need-placed-requires-2
 placed-requires-2 c κs = search needs
 
--- src/place.rt:257:9
 same-length : tie.Need-same-length
 same-length c = search needs
 
--- src/place.rt:257:9
 returns-2 : tie.Need-returns-2
 returns-2 c =
     let at-row-more = c .before in
@@ -79,29 +58,23 @@ returns-2 c =
     let at-args = at-object-id .before .before .before .before in
     let left = at-if1 .if1 .left in object-group (at-args .args .p) (at-args .args .members .now) (at-args .pre .1 .0 .1) (between-done (at-args .args .p) (at-args .pre .1 .0 .2)) (at-args .pre .1 .1 .0) (at-args .pre .1 .1 .1) (at-args .pre .1 .0 .5) (at-args .pre .1 .0 .3) (at-object-id .object-id .ensures) (omega arith) (at-if2 .if2 .taken) (at-row-more .row-more .ensures) (c .placed2 .ensures)
 
--- src/place.rt:259:9
 leaf-parts-requires : tie.Need-leaf-parts-requires
 leaf-parts-requires c κs = search needs
 
--- src/place.rt:260:33
 parts-only-requires : tie.Need-parts-only-requires
 parts-only-requires c κs = search needs
 
--- src/place.rt:260:12
 row-more-requires-2 : tie.Need-row-more-requires-2
 row-more-requires-2 c κs =
     let at-pre = c .before .before .before .before .before .before .before .before .before .before .before .before .before .before in
     at-pre .pre .1 .0 .4
 
--- src/place.rt:260:5
 placed-requires-3 : tie.Need-placed-requires-3
 placed-requires-3 c κs = search needs
 
--- src/place.rt:242:1
 same-length-2 : tie.Need-same-length-2
 same-length-2 c = search needs
 
--- src/place.rt:242:1
 returns-3 : tie.Need-returns-3
 returns-3 c =
     let at-row-more2 = c .before in

@@ -4,20 +4,13 @@ use native.Mathlib.Omega.{arith}
 use borrow.Author.Needs.{needs}
 use Rattle.session_run.proofs.place.outer_step.Statement.{statement}
 use Rattle.session_run.proofs.place.outer_step.Tie as tie
-use Rattle.session_run.proofs.place.outer_step.Reads as reads
-use Rattle.session_run.proofs.place.outer_step.Lts as lts
-use Rattle.session_run.proofs.field.outer_id.Reads as outer-id-reads
-use Rattle.session_run.proofs.place.placed.Reads as placed-reads
 
--- src/place.rt:148:9
 outer-id-requires : tie.Need-outer-id-requires
 outer-id-requires c κs = search needs
 
--- src/place.rt:157:5
 placed-requires : tie.Need-placed-requires
 placed-requires c κs = search needs
 
--- src/place.rt:143:1
 returns : tie.Need-returns
 returns c =
     let at-outer-id = c .before .before in

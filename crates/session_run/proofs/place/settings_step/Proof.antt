@@ -8,29 +8,19 @@ use mathlib.Core.Path.{ap, _∙_}
 use borrow.Author.Needs.{needs}
 use Rattle.session_run.proofs.place.settings_step.Statement.{statement}
 use Rattle.session_run.proofs.place.settings_step.Tie as tie
-use Rattle.session_run.proofs.place.settings_step.Reads as reads
-use Rattle.session_run.proofs.place.settings_step.Lts as lts
-use Rattle.from_file_styles.proofs.settings.settings.Reads as settings-reads
-use Rattle.session_run.proofs.place.at_stage.Reads as at-stage-reads
-use Rattle.session_run.proofs.place.placed.Reads as placed-reads
 
--- src/place.rt:138:35
 slice-aggregate-settings : tie.Need-slice-aggregate-settings
 slice-aggregate-settings c = search needs
 
--- src/place.rt:138:9
 settings-requires : tie.Need-settings-requires
 settings-requires c κs = search needs
 
--- src/place.rt:139:12
 at-stage-requires : tie.Need-at-stage-requires
 at-stage-requires c κs = search needs
 
--- src/place.rt:139:5
 placed-requires : tie.Need-placed-requires
 placed-requires c κs = search needs
 
--- src/place.rt:132:1
 returns : tie.Need-returns
 returns c =
     let at-at-stage = c .before in

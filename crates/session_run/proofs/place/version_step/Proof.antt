@@ -9,21 +9,13 @@ use mathlib.Core.Path.{ap, _∙_, refl}
 use borrow.Author.Needs.{needs}
 use Rattle.session_run.proofs.place.version_step.Statement.{statement}
 use Rattle.session_run.proofs.place.version_step.Tie as tie
-use Rattle.session_run.proofs.place.version_step.Reads as reads
-use Rattle.session_run.proofs.place.version_step.Lts as lts
-use Rattle.session_run.proofs.field.version_chars.Reads as version-chars-reads
-use Rattle.session_run.proofs.place.at_stage.Reads as at-stage-reads
-use Rattle.session_run.proofs.place.placed.Reads as placed-reads
 
--- src/place.rt:123:9
 version-chars-requires : tie.Need-version-chars-requires
 version-chars-requires c κs = search needs
 
--- src/place.rt:126:9
 placed-requires : tie.Need-placed-requires
 placed-requires c κs = search needs
 
--- src/place.rt:126:9
 returns : tie.Need-returns
 returns c =
     let at-if1 = c .before in
@@ -31,29 +23,24 @@ returns c =
     let at-args = at-version-chars .before .before in
     head-tells (at-args .args .p) (at-args .pre .1 .1) F.versionChars (λ ms c. restAt 3 (known (standingOf (at-args .args .p) ms) (c - F.versionZero))) (at-args .args .p) (λ ms some. rest-version (standingOf (at-args .args .p) ms)) (omega arith) (λ on. let off = at-if1 .if1 .taken in absurd (omega arith)) (at-version-chars .version-chars .ensures) (c .placed .ensures)
 
--- src/place.rt:128:19
 sub-version : tie.Need-sub-version
 sub-version c =
     let at-if1 = c .before in
     let at-version-chars = at-if1 .before .before .before in
     let on = at-if1 .if1 .left in let range = version-range (at-version-chars .version-chars .result .value) (at-version-chars .version-chars .ensures .fine (omega arith)) in let low = range .0 in omega arith
 
--- src/place.rt:129:27
 cast-at-stage : tie.Need-cast-at-stage
 cast-at-stage c =
     let at-if1 = c .before in
     let at-version-chars = at-if1 .before .before .before in
     let on = at-if1 .if1 .left in let range = version-range (at-version-chars .version-chars .result .value) (at-version-chars .version-chars .ensures .fine (omega arith)) in let low = range .0 in let high = range .1 in omega arith
 
--- src/place.rt:129:12
 at-stage-requires : tie.Need-at-stage-requires
 at-stage-requires c κs = search needs
 
--- src/place.rt:129:5
 placed-requires-2 : tie.Need-placed-requires-2
 placed-requires-2 c κs = search needs
 
--- src/place.rt:118:1
 returns-2 : tie.Need-returns-2
 returns-2 c =
     let at-at-stage = c .before in

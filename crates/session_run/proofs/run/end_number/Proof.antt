@@ -4,22 +4,16 @@ use mathlib.Core.Path.{sym, ap}
 use borrow.Author.Needs.{needs}
 use Rattle.session_run.proofs.run.end_number.Statement.{statement}
 use Rattle.session_run.proofs.run.end_number.Tie as tie
-use Rattle.session_run.proofs.run.end_number.Reads as reads
-use Rattle.session_run.proofs.run.end_number.Lts as lts
 
--- src/run.rt:31:16
 cast-result : tie.Need-cast-result
 cast-result c = search needs
 
--- src/run.rt:31:9
 returns : tie.Need-returns
 returns c = sym (ap (λ t. cond t 13 0) (lt-ltb (c .before .args .at) (c .before .args .total) (c .if1 .taken)))
 
--- src/run.rt:33:5
 cast-result-2 : tie.Need-cast-result-2
 cast-result-2 c = search needs
 
--- src/run.rt:27:1
 returns-2 : tie.Need-returns-2
 returns-2 c = sym (ap (λ t. cond t 13 0) (le-ltb (c .before .args .at) (c .before .args .total) (c .if1 .left)))
 

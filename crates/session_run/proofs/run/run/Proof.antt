@@ -6,11 +6,6 @@ use borrow.Author.Needs.{needs}
 use Rattle.session_run.specs.Running.{Came, came-nowhere, came-on, came-stopped, came-over}
 use Rattle.session_run.proofs.run.run.Statement.{statement}
 use Rattle.session_run.proofs.run.run.Tie as tie
-use Rattle.session_run.proofs.run.run.Reads as reads
-use Rattle.session_run.proofs.run.run.Lts as lts
-use Rattle.session_run.proofs.place.is_over.Reads as is-over-reads
-use Rattle.session_run.proofs.place.step.Reads as step-reads
-use Rattle.session_run.proofs.run.end_number.Reads as end-number-reads
 
 abbrev Inv-loop : tie.InvT-loop
 Inv-loop src to members₀ here₀ at₀ words₀ members here at words = Came here₀ members₀ here members src words₀ at words
@@ -18,23 +13,18 @@ Inv-loop src to members₀ here₀ at₀ words₀ members here at words = Came h
 abbrev μ-loop : tie.MeasureT-loop
 μ-loop src to members₀ here₀ at₀ words₀ members here at words = length src - at
 
--- src/run.rt:44:5
 loop-holds : tie.Need-loop-holds Inv-loop μ-loop
 loop-holds c = came-nowhere (c .before .before .pre .1 .0) (c .before .before .pre .0)
 
--- src/run.rt:45:12
 is-over-requires : tie.Need-is-over-requires Inv-loop μ-loop
 is-over-requires c κs = search needs
 
--- src/run.rt:50:25
 end-number-requires : tie.Need-end-number-requires Inv-loop μ-loop
 end-number-requires c κs = search needs
 
--- src/run.rt:46:13
 same-length : tie.Need-same-length Inv-loop μ-loop
 same-length c = c .before .before .before .loop .inv .sized
 
--- src/run.rt:46:13
 returns : tie.Need-returns Inv-loop μ-loop
 returns c =
     let at-if1 = c .before in
@@ -42,7 +32,6 @@ returns c =
     let at-loop = at-is-over .before in
     came-over (at-loop .loop .inv) (at-is-over .is-over .ensures .over (at-if1 .if1 .taken)) (c .end-number .ensures)
 
--- src/run.rt:54:13
 step-requires : tie.Need-step-requires Inv-loop μ-loop
 step-requires c κs =
     let at-if1 = c .before in
@@ -51,11 +40,9 @@ step-requires c κs =
     let at-pre = at-loop .before .before .before in
     let few = at-loop .loop .inv .few-rows in let there = at-loop .loop .inv .there in let short = at-pre .pre .0 .short in let rows = at-pre .pre .1 .1 in (at-loop .loop .inv .ready, (at-loop .loop .inv .there, at-loop .loop .inv .sound, omega arith, record { more = at-is-over .is-over .ensures .unended (at-if1 .if1 .left) }, omega arith))
 
--- src/run.rt:56:13
 same-length-2 : tie.Need-same-length-2 Inv-loop μ-loop
 same-length-2 c = search needs
 
--- src/run.rt:56:13
 returns-2 : tie.Need-returns-2 Inv-loop μ-loop
 returns-2 c =
     let at-if2 = c .before in
@@ -63,14 +50,12 @@ returns-2 c =
     let at-loop = at-step .before .before .before .before in
     came-stopped (at-loop .loop .inv) (at-if2 .if2 .taken) (at-step .step .ensures)
 
--- src/run.rt:44:5
 loop-less : tie.Need-loop-less Inv-loop μ-loop
 loop-less c =
     let at-if2 = c .before in
     let at-step = at-if2 .before .before .before .before in
     let left = at-if2 .if2 .left in let moves = at-step .step .ensures .steps .moves (omega arith) in let a = moves .0 in let b = moves .1 in omega arith
 
--- src/run.rt:44:5
 loop-again : tie.Need-loop-again Inv-loop μ-loop
 loop-again c =
     let at-if2 = c .before in

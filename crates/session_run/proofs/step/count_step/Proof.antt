@@ -2,7 +2,6 @@ use Rattle.session_run.specs.Insides.{step-is, asked-inside, withRun, co
 use Rattle.pieces.specs.OutlineLaws.{segmentsFrom}
 use Rattle.pieces.specs.declared.Inside.{Inside}
 use Rattle.format.specs.Kind as K
-use Rattle.drawing.specs.Fields as F
 use mathlib.Core.Bool.{cond}
 use mathlib.Core.Path.{_∙_, ap, refl}
 use Rattle.format.specs.LeafLaws.{known-below}
@@ -11,33 +10,22 @@ use native.Mathlib.Omega.{arith}
 use borrow.Author.Needs.{needs}
 use Rattle.session_run.proofs.step.count_step.Statement.{statement}
 use Rattle.session_run.proofs.step.count_step.Tie as tie
-use Rattle.session_run.proofs.step.count_step.Reads as reads
-use Rattle.session_run.proofs.step.count_step.Lts as lts
-use Rattle.from_file.proofs.field.count.Reads as count-reads
-use Rattle.session_run.proofs.step.segments_from.Reads as segments-from-reads
-use Rattle.session_run.proofs.step.stepped.Reads as stepped-reads
 
--- src/step.rt:250:32
 slice-aggregate-count : tie.Need-slice-aggregate-count
 slice-aggregate-count c = search needs
 
--- src/step.rt:250:9
 count-requires : tie.Need-count-requires
 count-requires c κs = search needs
 
--- src/step.rt:251:16
 cast-left : tie.Need-cast-left
 cast-left c = search needs
 
--- src/step.rt:253:24
 segments-from-requires : tie.Need-segments-from-requires
 segments-from-requires c κs = search needs
 
--- src/step.rt:253:9
 stepped-requires : tie.Need-stepped-requires
 stepped-requires c κs = search needs
 
--- src/step.rt:253:9
 returns : tie.Need-returns
 returns c =
     let at-segments-from = c .before in
@@ -47,15 +35,12 @@ returns c =
     let at-args = at-shared-slice-known .before in
     step-is (c .stepped .ensures) (asked-inside (count-tells-old (at-args .args .version) (at-args .args .s) (at-args .pre .1 .1) (at-if1 .if1 .taken)) (omega arith) (omega arith) (known-below w8 (at-args .args .src .now) (at-shared-slice-known .shared-slice-known .given)) (at-args .pre .1 .0) (at-count .count .ensures .asks K.integer refl refl) (at-segments-from .segments-from .ensures))
 
--- src/step.rt:255:13
 segments-from-requires-2 : tie.Need-segments-from-requires-2
 segments-from-requires-2 c κs = search needs
 
--- src/step.rt:255:5
 stepped-requires-2 : tie.Need-stepped-requires-2
 stepped-requires-2 c κs = search needs
 
--- src/step.rt:244:1
 returns-2 : tie.Need-returns-2
 returns-2 c =
     let at-segments-from2 = c .before in

@@ -5,18 +5,13 @@ use mathlib.Core.Path.{sym, ap}
 use borrow.Author.Needs.{needs}
 use Rattle.session_run.proofs.step.dash_run.Statement.{statement}
 use Rattle.session_run.proofs.step.dash_run.Tie as tie
-use Rattle.session_run.proofs.step.dash_run.Reads as reads
-use Rattle.session_run.proofs.step.dash_run.Lts as lts
 
--- src/step.rt:159:9
 returns : tie.Need-returns
 returns c = sym (ap (λ t. cond t 0 (c .before .args .n + 1)) (eq-eqb (c .before .args .n) 0 (c .if1 .taken)))
 
--- src/step.rt:161:5
 add-result : tie.Need-add-result
 add-result c = search needs
 
--- src/step.rt:154:1
 returns-2 : tie.Need-returns-2
 returns-2 c = sym (ap (λ t. cond t 0 (c .before .args .n + 1)) (ne-eqb (c .before .args .n) 0 (c .if1 .left)))
 

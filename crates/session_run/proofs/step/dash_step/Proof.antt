@@ -2,7 +2,6 @@ use Prim.Native.Nat.{_/_}
 use Rattle.session_run.specs.Insides.{step-is, asked-inside, withRun, dashes-tell}
 use Rattle.pieces.specs.OutlineLaws.{segmentsFrom}
 use Rattle.pieces.specs.declared.Inside.{Inside}
-use Rattle.drawing.specs.Fields as F
 use mathlib.Core.Bool.{cond}
 use mathlib.Core.Path.{_∙_, ap, refl}
 use Rattle.format.specs.LeafLaws.{known-below}
@@ -11,34 +10,22 @@ use native.Mathlib.Omega.{arith}
 use borrow.Author.Needs.{needs}
 use Rattle.session_run.proofs.step.dash_step.Statement.{statement}
 use Rattle.session_run.proofs.step.dash_step.Tie as tie
-use Rattle.session_run.proofs.step.dash_step.Reads as reads
-use Rattle.session_run.proofs.step.dash_step.Lts as lts
-use Rattle.from_file.proofs.field.dash_count.Reads as dash-count-reads
-use Rattle.session_run.proofs.step.dash_run.Reads as dash-run-reads
-use Rattle.session_run.proofs.step.stepped.Reads as stepped-reads
-use Rattle.session_run.proofs.step.with_run.Reads as with-run-reads
 
--- src/step.rt:170:37
 slice-aggregate-dash-count : tie.Need-slice-aggregate-dash-count
 slice-aggregate-dash-count c = search needs
 
--- src/step.rt:170:9
 dash-count-requires : tie.Need-dash-count-requires
 dash-count-requires c κs = search needs
 
--- src/step.rt:172:34
 dash-run-requires : tie.Need-dash-run-requires
 dash-run-requires c κs = search needs
 
--- src/step.rt:172:9
 with-run-requires : tie.Need-with-run-requires
 with-run-requires c κs = search needs
 
--- src/step.rt:171:5
 stepped-requires : tie.Need-stepped-requires
 stepped-requires c κs = search needs
 
--- src/step.rt:164:1
 returns : tie.Need-returns
 returns c =
     let at-with-run = c .before in

@@ -1,7 +1,6 @@
 use Rattle.session_run.specs.Insides.{step-is, asked-inside, withRun, end-tells-old, end-tells-new}
 use Rattle.pieces.specs.OutlineLaws.{segmentsFrom}
 use Rattle.pieces.specs.declared.Inside.{Inside}
-use Rattle.drawing.specs.Fields as F
 use mathlib.Core.Bool.{cond}
 use mathlib.Core.Path.{_∙_, ap, refl}
 use Rattle.format.specs.LeafLaws.{known-below}
@@ -10,29 +9,19 @@ use native.Mathlib.Omega.{arith}
 use borrow.Author.Needs.{needs}
 use Rattle.session_run.proofs.step.end_step.Statement.{statement}
 use Rattle.session_run.proofs.step.end_step.Tie as tie
-use Rattle.session_run.proofs.step.end_step.Reads as reads
-use Rattle.session_run.proofs.step.end_step.Lts as lts
-use Rattle.from_file.proofs.field.flow_flag.Reads as flow-flag-reads
-use Rattle.session_run.proofs.step.stepped.Reads as stepped-reads
-use Rattle.session_run.proofs.step.with_run.Reads as with-run-reads
 
--- src/step.rt:332:33
 slice-aggregate-flow-flag : tie.Need-slice-aggregate-flow-flag
 slice-aggregate-flow-flag c = search needs
 
--- src/step.rt:332:9
 flow-flag-requires : tie.Need-flow-flag-requires
 flow-flag-requires c κs = search needs
 
--- src/step.rt:334:24
 with-run-requires : tie.Need-with-run-requires
 with-run-requires c κs = search needs
 
--- src/step.rt:334:9
 stepped-requires : tie.Need-stepped-requires
 stepped-requires c κs = search needs
 
--- src/step.rt:334:9
 returns : tie.Need-returns
 returns c =
     let at-with-run = c .before in
@@ -42,15 +31,12 @@ returns c =
     let at-args = at-shared-slice-known .before in
     step-is (c .stepped .ensures) (asked-inside (end-tells-old (at-args .args .version) (at-args .args .s) (at-args .pre .1 .1) (at-if1 .if1 .taken)) (omega arith) (omega arith) (known-below w8 (at-args .args .src .now) (at-shared-slice-known .shared-slice-known .given)) (at-args .pre .1 .0) (at-flow-flag .flow-flag .ensures) (at-with-run .with-run .ensures))
 
--- src/step.rt:336:13
 with-run-requires-2 : tie.Need-with-run-requires-2
 with-run-requires-2 c κs = search needs
 
--- src/step.rt:336:5
 stepped-requires-2 : tie.Need-stepped-requires-2
 stepped-requires-2 c κs = search needs
 
--- src/step.rt:326:1
 returns-2 : tie.Need-returns-2
 returns-2 c =
     let at-with-run2 = c .before in

@@ -3,18 +3,13 @@ use native.Mathlib.Omega.{arith}
 use mathlib.Core.Path.{refl, sym, ap, subst}
 use Rattle.session_run.proofs.step.field_bytes.Statement.{statement}
 use Rattle.session_run.proofs.step.field_bytes.Tie as tie
-use Rattle.session_run.proofs.step.field_bytes.Reads as reads
-use Rattle.session_run.proofs.step.field_bytes.Lts as lts
 
--- src/step.rt:96:9
 returns : tie.Need-returns
 returns c = two-bytes (c .if1 .taken)
 
--- src/step.rt:99:9
 returns-2 : tie.Need-returns-2
 returns-2 c = four-bytes (c .if2 .taken)
 
--- src/step.rt:92:1
 returns-3 : tie.Need-returns-3
 returns-3 c = eight-bytes (c .before .if1 .left) (c .if2 .left)
 

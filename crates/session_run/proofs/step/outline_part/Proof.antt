@@ -4,54 +4,38 @@ use native.Mathlib.Omega.{arith}
 use borrow.Author.Needs.{needs}
 use Rattle.session_run.proofs.step.outline_part.Statement.{statement}
 use Rattle.session_run.proofs.step.outline_part.Tie as tie
-use Rattle.session_run.proofs.step.outline_part.Reads as reads
-use Rattle.session_run.proofs.step.outline_part.Lts as lts
-use Rattle.session_run.proofs.step.count_step.Reads as count-step-reads
-use Rattle.session_run.proofs.step.outline_step.Reads as outline-step-reads
-use Rattle.session_run.proofs.step.own_step.Reads as own-step-reads
-use Rattle.session_run.proofs.step.segment_step.Reads as segment-step-reads
 
--- src/step.rt:372:9
 outline-step-requires : tie.Need-outline-step-requires
 outline-step-requires c κs = search needs
 
--- src/step.rt:372:9
 returns : tie.Need-returns
 returns c = search needs
 
--- src/step.rt:375:9
 count-step-requires : tie.Need-count-step-requires
 count-step-requires c κs = search needs
 
--- src/step.rt:375:9
 returns-2 : tie.Need-returns-2
 returns-2 c = search needs
 
--- src/step.rt:378:9
 segment-step-requires : tie.Need-segment-step-requires
 segment-step-requires c κs = search needs
 
--- src/step.rt:378:9
 returns-3 : tie.Need-returns-3
 returns-3 c = search needs
 
--- src/step.rt:381:9
 own-step-requires : tie.Need-own-step-requires
 own-step-requires c κs =
     let at-pre = c .before .before .before .before .before in
     (at-pre .pre .0, (at-pre .pre .1 .0, first-tells (at-pre .args .version) (at-pre .args .s) (next-is (c .if4 .taken) (at-pre .pre .1 .1))))
 
--- src/step.rt:381:9
 returns-4 : tie.Need-returns-4
 returns-4 c = search needs
 
--- src/step.rt:383:5
 own-step-requires-2 : tie.Need-own-step-requires-2
 own-step-requires-2 c κs =
     let at-args = c .before .before .before .before .before in
     let is : at-args .args .part ≡ 21 = omega arith in (at-args .pre .0, (at-args .pre .1 .0, joined-tells (at-args .args .version) (at-args .args .s) (next-is is (at-args .pre .1 .1))))
 
--- src/step.rt:366:1
 returns-5 : tie.Need-returns-5
 returns-5 c = search needs
 

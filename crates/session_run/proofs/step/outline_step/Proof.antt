@@ -1,7 +1,6 @@
 use Rattle.session_run.specs.Insides.{step-is, asked-inside, withRun, outline-tells}
 use Rattle.pieces.specs.OutlineLaws.{segmentsFrom}
 use Rattle.pieces.specs.declared.Inside.{Inside}
-use Rattle.drawing.specs.Fields as F
 use mathlib.Core.Bool.{cond}
 use mathlib.Core.Path.{_∙_, ap, refl}
 use Rattle.format.specs.LeafLaws.{known-below}
@@ -10,29 +9,19 @@ use native.Mathlib.Omega.{arith}
 use borrow.Author.Needs.{needs}
 use Rattle.session_run.proofs.step.outline_step.Statement.{statement}
 use Rattle.session_run.proofs.step.outline_step.Tie as tie
-use Rattle.session_run.proofs.step.outline_step.Reads as reads
-use Rattle.session_run.proofs.step.outline_step.Lts as lts
-use Rattle.from_file.proofs.letter.closed_letter.Reads as closed-letter-reads
-use Rattle.session_run.proofs.step.stepped.Reads as stepped-reads
-use Rattle.session_run.proofs.step.with_run.Reads as with-run-reads
 
--- src/step.rt:239:37
 slice-aggregate-closed-letter : tie.Need-slice-aggregate-closed-letter
 slice-aggregate-closed-letter c = search needs
 
--- src/step.rt:239:9
 closed-letter-requires : tie.Need-closed-letter-requires
 closed-letter-requires c κs = search needs
 
--- src/step.rt:240:13
 with-run-requires : tie.Need-with-run-requires
 with-run-requires c κs = search needs
 
--- src/step.rt:240:5
 stepped-requires : tie.Need-stepped-requires
 stepped-requires c κs = search needs
 
--- src/step.rt:233:1
 returns : tie.Need-returns
 returns c =
     let at-with-run = c .before in

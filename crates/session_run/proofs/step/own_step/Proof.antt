@@ -1,7 +1,6 @@
 use Rattle.session_run.specs.Insides.{step-is, asked-inside, withRun}
 use Rattle.pieces.specs.OutlineLaws.{segmentsFrom}
 use Rattle.pieces.specs.declared.Inside.{Inside}
-use Rattle.drawing.specs.Fields as F
 use mathlib.Core.Bool.{cond}
 use mathlib.Core.Path.{_∙_, ap, refl}
 use Rattle.format.specs.LeafLaws.{known-below}
@@ -10,39 +9,25 @@ use native.Mathlib.Omega.{arith}
 use borrow.Author.Needs.{needs}
 use Rattle.session_run.proofs.step.own_step.Statement.{statement}
 use Rattle.session_run.proofs.step.own_step.Tie as tie
-use Rattle.session_run.proofs.step.own_step.Reads as reads
-use Rattle.session_run.proofs.step.own_step.Lts as lts
-use Rattle.from_file.proofs.letter.is_straight.Reads as is-straight-reads
-use Rattle.from_file.proofs.letter.segment_letter.Reads as segment-letter-reads
-use Rattle.session_run.proofs.step.either_parts.Reads as either-parts-reads
-use Rattle.session_run.proofs.step.stepped.Reads as stepped-reads
-use Rattle.session_run.proofs.step.with_run.Reads as with-run-reads
 
--- src/step.rt:285:38
 slice-aggregate-segment-letter : tie.Need-slice-aggregate-segment-letter
 slice-aggregate-segment-letter c = search needs
 
--- src/step.rt:285:9
 segment-letter-requires : tie.Need-segment-letter-requires
 segment-letter-requires c κs = search needs
 
--- src/step.rt:286:30
 is-straight-requires : tie.Need-is-straight-requires
 is-straight-requires c κs = search needs
 
--- src/step.rt:286:9
 either-parts-requires : tie.Need-either-parts-requires
 either-parts-requires c κs = search needs
 
--- src/step.rt:287:13
 with-run-requires : tie.Need-with-run-requires
 with-run-requires c κs = search needs
 
--- src/step.rt:287:5
 stepped-requires : tie.Need-stepped-requires
 stepped-requires c κs = search needs
 
--- src/step.rt:271:1
 returns : tie.Need-returns
 returns c =
     let at-with-run = c .before in

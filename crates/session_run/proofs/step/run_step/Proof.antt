@@ -10,34 +10,22 @@ use native.Mathlib.Omega.{arith}
 use borrow.Author.Needs.{needs}
 use Rattle.session_run.proofs.step.run_step.Statement.{statement}
 use Rattle.session_run.proofs.step.run_step.Tie as tie
-use Rattle.session_run.proofs.step.run_step.Reads as reads
-use Rattle.session_run.proofs.step.run_step.Lts as lts
-use Rattle.from_file.proofs.prims.refusal.Reads as refusal-reads
-use Rattle.session_run.proofs.step.field_bytes.Reads as field-bytes-reads
-use Rattle.session_run.proofs.step.stepped.Reads as stepped-reads
-use Rattle.session_run.proofs.step.with_run.Reads as with-run-reads
 
--- src/step.rt:110:9
 field-bytes-requires : tie.Need-field-bytes-requires
 field-bytes-requires c κs = search needs
 
--- src/step.rt:111:18
 sub-there : tie.Need-sub-there
 sub-there c = search needs
 
--- src/step.rt:111:17
 div-there : tie.Need-div-there
 div-there c = search needs
 
--- src/step.rt:113:27
 refusal-requires : tie.Need-refusal-requires
 refusal-requires c κs = search needs
 
--- src/step.rt:113:9
 stepped-requires : tie.Need-stepped-requires
 stepped-requires c κs = search needs
 
--- src/step.rt:113:9
 returns : tie.Need-returns
 returns c =
     let at-refusal = c .before in
@@ -47,47 +35,39 @@ returns c =
     let at-args = at-shared-slice-known .before in
     step-is (c .stepped .ensures) (run-cut (at-args .args .version) (at-args .args .s) (at-field-bytes .field-bytes .ensures) (known-below w8 (at-args .args .src .now) (at-shared-slice-known .shared-slice-known .given)) (at-args .pre .0) (at-args .pre .1 .0) (at-args .pre .1 .1) (none-fits (length (at-args .args .src .now) - at-args .args .at) (at-field-bytes .field-bytes .result) (at-field-bytes .field-bytes .ensures .some) (at-if1 .if1 .taken)) (at-refusal .refusal .ensures))
 
--- src/step.rt:116:20
 sub-left : tie.Need-sub-left
 sub-left c = search needs
 
--- src/step.rt:118:21
 with-run-requires : tie.Need-with-run-requires
 with-run-requires c κs = search needs
 
--- src/step.rt:119:22
 mul-t17 : tie.Need-mul-t17
 mul-t17 c =
     let at-field-bytes = c .before .before .before .before .before in
     let at-args = at-field-bytes .before .before in
     let fit = fields-fit (length (at-args .args .src .now) - at-args .args .at) (at-field-bytes .field-bytes .result) (((length (at-args .args .src .now) - at-args .args .at) / at-field-bytes .field-bytes .result)) (at-field-bytes .field-bytes .ensures .some) (Nat.le-refl ((length (at-args .args .src .now) - at-args .args .at) / at-field-bytes .field-bytes .result)) in let h = fit .0 in let g = fit .1 in let short = at-args .pre .0 .short in let inside = at-args .pre .1 .0 in let few = at-args .pre .0 .few (omega arith) in omega arith
 
--- src/step.rt:119:17
 add-t18 : tie.Need-add-t18
 add-t18 c =
     let at-field-bytes = c .before .before .before .before .before in
     let at-args = at-field-bytes .before .before in
     let fit = fields-fit (length (at-args .args .src .now) - at-args .args .at) (at-field-bytes .field-bytes .result) (((length (at-args .args .src .now) - at-args .args .at) / at-field-bytes .field-bytes .result)) (at-field-bytes .field-bytes .ensures .some) (Nat.le-refl ((length (at-args .args .src .now) - at-args .args .at) / at-field-bytes .field-bytes .result)) in let h = fit .0 in let g = fit .1 in let short = at-args .pre .0 .short in let inside = at-args .pre .1 .0 in let few = at-args .pre .0 .few (omega arith) in omega arith
 
--- src/step.rt:120:32
 add-t19 : tie.Need-add-t19
 add-t19 c = search needs
 
--- src/step.rt:120:22
 mul-t21 : tie.Need-mul-t21
 mul-t21 c =
     let at-field-bytes = c .before .before .before .before .before in
     let at-args = at-field-bytes .before .before in
     let fit = fields-fit (length (at-args .args .src .now) - at-args .args .at) (at-field-bytes .field-bytes .result) (((length (at-args .args .src .now) - at-args .args .at) / at-field-bytes .field-bytes .result)) (at-field-bytes .field-bytes .ensures .some) (Nat.le-refl ((length (at-args .args .src .now) - at-args .args .at) / at-field-bytes .field-bytes .result)) in let h = fit .0 in let g = fit .1 in let short = at-args .pre .0 .short in let inside = at-args .pre .1 .0 in let few = at-args .pre .0 .few (omega arith) in omega arith
 
--- src/step.rt:120:17
 add-t22 : tie.Need-add-t22
 add-t22 c =
     let at-field-bytes = c .before .before .before .before .before in
     let at-args = at-field-bytes .before .before in
     let fit = fields-fit (length (at-args .args .src .now) - at-args .args .at) (at-field-bytes .field-bytes .result) (((length (at-args .args .src .now) - at-args .args .at) / at-field-bytes .field-bytes .result)) (at-field-bytes .field-bytes .ensures .some) (Nat.le-refl ((length (at-args .args .src .now) - at-args .args .at) / at-field-bytes .field-bytes .result)) in let h = fit .0 in let g = fit .1 in let short = at-args .pre .0 .short in let inside = at-args .pre .1 .0 in let few = at-args .pre .0 .few (omega arith) in omega arith
 
--- src/step.rt:117:9
 returns-2 : tie.Need-returns-2
 returns-2 c =
     let at-if2 = c .before .before in
@@ -97,11 +77,9 @@ returns-2 c =
     let at-args = at-shared-slice-known .before in
     let less = at-if2 .if2 .taken in let some = at-if1 .if1 .left in step-is (ap {B = InsideStep} (λ i. record { inside = i; at = at-args .args .at + ((length (at-args .args .src .now) - at-args .args .at) / at-field-bytes .field-bytes .result) * at-field-bytes .field-bytes .result; to = at-args .args .to + ((length (at-args .args .src .now) - at-args .args .at) / at-field-bytes .field-bytes .result) * ((at-field-bytes .field-bytes .result + 3) / 4) }) (c .with-run .ensures)) (run-inside (at-args .args .version) (at-args .args .s) (at-field-bytes .field-bytes .ensures) (known-below w8 (at-args .args .src .now) (at-shared-slice-known .shared-slice-known .given)) (at-args .pre .0) (at-args .pre .1 .0) ((length (at-args .args .src .now) - at-args .args .at) / at-field-bytes .field-bytes .result) ((at-args .args .s) .run - ((length (at-args .args .src .now) - at-args .args .at) / at-field-bytes .field-bytes .result)) (omega arith) (omega arith) (fields-fit (length (at-args .args .src .now) - at-args .args .at) (at-field-bytes .field-bytes .result) ((length (at-args .args .src .now) - at-args .args .at) / at-field-bytes .field-bytes .result) (at-field-bytes .field-bytes .ensures .some) (Nat.le-refl ((length (at-args .args .src .now) - at-args .args .at) / at-field-bytes .field-bytes .result)) .0))
 
--- src/step.rt:125:17
 with-run-requires-2 : tie.Need-with-run-requires-2
 with-run-requires-2 c κs = search needs
 
--- src/step.rt:126:18
 mul-t10 : tie.Need-mul-t10
 mul-t10 c =
     let at-if2 = c .before in
@@ -109,7 +87,6 @@ mul-t10 c =
     let at-args = at-field-bytes .before .before in
     let fit = fields-fit (length (at-args .args .src .now) - at-args .args .at) (at-field-bytes .field-bytes .result) ((at-args .args .s) .run) (at-field-bytes .field-bytes .ensures .some) (let h = at-if2 .if2 .left in omega arith) in let h = fit .0 in let g = fit .1 in let short = at-args .pre .0 .short in let inside = at-args .pre .1 .0 in let few = at-args .pre .0 .few (omega arith) in omega arith
 
--- src/step.rt:126:13
 add-t11 : tie.Need-add-t11
 add-t11 c =
     let at-if2 = c .before in
@@ -117,11 +94,9 @@ add-t11 c =
     let at-args = at-field-bytes .before .before in
     let fit = fields-fit (length (at-args .args .src .now) - at-args .args .at) (at-field-bytes .field-bytes .result) ((at-args .args .s) .run) (at-field-bytes .field-bytes .ensures .some) (let h = at-if2 .if2 .left in omega arith) in let h = fit .0 in let g = fit .1 in let short = at-args .pre .0 .short in let inside = at-args .pre .1 .0 in let few = at-args .pre .0 .few (omega arith) in omega arith
 
--- src/step.rt:127:26
 add-t24 : tie.Need-add-t24
 add-t24 c = search needs
 
--- src/step.rt:127:18
 mul-t26 : tie.Need-mul-t26
 mul-t26 c =
     let at-if2 = c .before in
@@ -129,7 +104,6 @@ mul-t26 c =
     let at-args = at-field-bytes .before .before in
     let fit = fields-fit (length (at-args .args .src .now) - at-args .args .at) (at-field-bytes .field-bytes .result) ((at-args .args .s) .run) (at-field-bytes .field-bytes .ensures .some) (let h = at-if2 .if2 .left in omega arith) in let h = fit .0 in let g = fit .1 in let short = at-args .pre .0 .short in let inside = at-args .pre .1 .0 in let few = at-args .pre .0 .few (omega arith) in omega arith
 
--- src/step.rt:127:13
 add-t27 : tie.Need-add-t27
 add-t27 c =
     let at-if2 = c .before in
@@ -137,7 +111,6 @@ add-t27 c =
     let at-args = at-field-bytes .before .before in
     let fit = fields-fit (length (at-args .args .src .now) - at-args .args .at) (at-field-bytes .field-bytes .result) ((at-args .args .s) .run) (at-field-bytes .field-bytes .ensures .some) (let h = at-if2 .if2 .left in omega arith) in let h = fit .0 in let g = fit .1 in let short = at-args .pre .0 .short in let inside = at-args .pre .1 .0 in let few = at-args .pre .0 .few (omega arith) in omega arith
 
--- src/step.rt:105:1
 returns-3 : tie.Need-returns-3
 returns-3 c =
     let at-if2 = c .before in

@@ -1,7 +1,6 @@
 use Rattle.session_run.specs.Insides.{step-is, asked-inside, withRun, segment-tells}
 use Rattle.pieces.specs.OutlineLaws.{segmentsFrom}
 use Rattle.pieces.specs.declared.Inside.{Inside}
-use Rattle.drawing.specs.Fields as F
 use mathlib.Core.Bool.{cond}
 use mathlib.Core.Path.{_∙_, ap, refl}
 use Rattle.format.specs.LeafLaws.{known-below}
@@ -10,39 +9,25 @@ use native.Mathlib.Omega.{arith}
 use borrow.Author.Needs.{needs}
 use Rattle.session_run.proofs.step.segment_step.Statement.{statement}
 use Rattle.session_run.proofs.step.segment_step.Tie as tie
-use Rattle.session_run.proofs.step.segment_step.Reads as reads
-use Rattle.session_run.proofs.step.segment_step.Lts as lts
-use Rattle.from_file.proofs.letter.is_straight.Reads as is-straight-reads
-use Rattle.from_file.proofs.letter.segment_letter.Reads as segment-letter-reads
-use Rattle.session_run.proofs.step.either_parts.Reads as either-parts-reads
-use Rattle.session_run.proofs.step.segments_from.Reads as segments-from-reads
-use Rattle.session_run.proofs.step.stepped.Reads as stepped-reads
 
--- src/step.rt:265:38
 slice-aggregate-segment-letter : tie.Need-slice-aggregate-segment-letter
 slice-aggregate-segment-letter c = search needs
 
--- src/step.rt:265:9
 segment-letter-requires : tie.Need-segment-letter-requires
 segment-letter-requires c κs = search needs
 
--- src/step.rt:266:32
 is-straight-requires : tie.Need-is-straight-requires
 is-straight-requires c κs = search needs
 
--- src/step.rt:266:9
 either-parts-requires : tie.Need-either-parts-requires
 either-parts-requires c κs = search needs
 
--- src/step.rt:267:13
 segments-from-requires : tie.Need-segments-from-requires
 segments-from-requires c κs = search needs
 
--- src/step.rt:267:5
 stepped-requires : tie.Need-stepped-requires
 stepped-requires c κs = search needs
 
--- src/step.rt:259:1
 returns : tie.Need-returns
 returns c =
     let at-segments-from = c .before in

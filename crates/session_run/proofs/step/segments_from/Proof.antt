@@ -3,18 +3,13 @@ use mathlib.Core.Path.{refl, sym, ap}
 use borrow.Author.Needs.{needs}
 use Rattle.session_run.proofs.step.segments_from.Statement.{statement}
 use Rattle.session_run.proofs.step.segments_from.Tie as tie
-use Rattle.session_run.proofs.step.segments_from.Reads as reads
-use Rattle.session_run.proofs.step.segments_from.Lts as lts
 
--- src/step.rt:214:9
 returns : tie.Need-returns
 returns c = last-segment (c .before .args .s) (c .before .args .part) (c .before .args .doubles) (c .if1 .taken)
 
--- src/step.rt:227:19
 sub-t6 : tie.Need-sub-t6
 sub-t6 c = search needs
 
--- src/step.rt:210:1
 returns-2 : tie.Need-returns-2
 returns-2 c = more-segments (c .before .args .s) (c .before .args .part) (c .before .args .doubles) (c .if1 .left)
 

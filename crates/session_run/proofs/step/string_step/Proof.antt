@@ -8,29 +8,19 @@ use native.Mathlib.Omega.{arith}
 use borrow.Author.Needs.{needs}
 use Rattle.session_run.proofs.step.string_step.Statement.{statement}
 use Rattle.session_run.proofs.step.string_step.Tie as tie
-use Rattle.session_run.proofs.step.string_step.Reads as reads
-use Rattle.session_run.proofs.step.string_step.Lts as lts
-use Rattle.from_file.proofs.field.count.Reads as count-reads
-use Rattle.session_run.proofs.step.stepped.Reads as stepped-reads
-use Rattle.session_run.proofs.step.with_run.Reads as with-run-reads
 
--- src/step.rt:149:31
 slice-aggregate-count : tie.Need-slice-aggregate-count
 slice-aggregate-count c = search needs
 
--- src/step.rt:149:9
 count-requires : tie.Need-count-requires
 count-requires c κs = search needs
 
--- src/step.rt:150:13
 with-run-requires : tie.Need-with-run-requires
 with-run-requires c κs = search needs
 
--- src/step.rt:150:5
 stepped-requires : tie.Need-stepped-requires
 stepped-requires c κs = search needs
 
--- src/step.rt:143:1
 returns : tie.Need-returns
 returns c =
     let at-with-run = c .before in

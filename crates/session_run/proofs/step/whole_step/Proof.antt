@@ -7,25 +7,16 @@ use native.Mathlib.Omega.{arith}
 use borrow.Author.Needs.{needs}
 use Rattle.session_run.proofs.step.whole_step.Statement.{statement}
 use Rattle.session_run.proofs.step.whole_step.Tie as tie
-use Rattle.session_run.proofs.step.whole_step.Reads as reads
-use Rattle.session_run.proofs.step.whole_step.Lts as lts
-use Rattle.session_run.proofs.step.stepped.Reads as stepped-reads
-use Rattle.session_run.proofs.step.with_run.Reads as with-run-reads
-use Rattle.session_run.proofs.whole.whole.Reads as whole-reads
 
--- src/step.rt:138:9
 whole-requires : tie.Need-whole-requires
 whole-requires c κs = search needs
 
--- src/step.rt:139:13
 with-run-requires : tie.Need-with-run-requires
 with-run-requires c κs = search needs
 
--- src/step.rt:139:5
 stepped-requires : tie.Need-stepped-requires
 stepped-requires c κs = search needs
 
--- src/step.rt:133:1
 returns : tie.Need-returns
 returns c =
     let at-with-run = c .before in

@@ -1,7 +1,6 @@
 use Rattle.session_run.specs.Insides.{step-is, told-inside, withRun, x-tells}
 use Rattle.pieces.specs.OutlineLaws.{segmentsFrom}
 use Rattle.pieces.specs.declared.Inside.{Inside}
-use Rattle.drawing.specs.Fields as F
 use mathlib.Core.Bool.{cond}
 use mathlib.Core.Path.{_∙_, ap, refl}
 use Rattle.format.specs.LeafLaws.{known-below}
@@ -10,20 +9,13 @@ use native.Mathlib.Omega.{arith}
 use borrow.Author.Needs.{needs}
 use Rattle.session_run.proofs.step.x_step.Statement.{statement}
 use Rattle.session_run.proofs.step.x_step.Tie as tie
-use Rattle.session_run.proofs.step.x_step.Reads as reads
-use Rattle.session_run.proofs.step.x_step.Lts as lts
-use Rattle.session_run.proofs.field.double.Reads as double-reads
-use Rattle.session_run.proofs.step.stepped.Reads as stepped-reads
 
--- src/step.rt:296:9
 double-requires : tie.Need-double-requires
 double-requires c κs = search needs
 
--- src/step.rt:305:5
 stepped-requires : tie.Need-stepped-requires
 stepped-requires c κs = search needs
 
--- src/step.rt:291:1
 returns : tie.Need-returns
 returns c =
     let at-double = c .before in

@@ -6,27 +6,19 @@ use native.Mathlib.Omega.{arith}
 use borrow.Author.Needs.{needs}
 use Rattle.session_run.proofs.whole.alignment.Statement.{statement}
 use Rattle.session_run.proofs.whole.alignment.Tie as tie
-use Rattle.session_run.proofs.whole.alignment.Reads as reads
-use Rattle.session_run.proofs.whole.alignment.Lts as lts
-use Rattle.from_file.proofs.field.byte.Reads as byte-reads
 
--- src/whole.rt:90:34
 slice-aggregate-byte : tie.Need-slice-aggregate-byte
 slice-aggregate-byte c = search needs
 
--- src/whole.rt:90:9
 byte-requires : tie.Need-byte-requires
 byte-requires c κs = search needs
 
--- src/whole.rt:92:32
 slice-aggregate-byte-2 : tie.Need-slice-aggregate-byte-2
 slice-aggregate-byte-2 c = search needs
 
--- src/whole.rt:92:9
 byte-requires-2 : tie.Need-byte-requires-2
 byte-requires-2 c κs = search needs
 
--- src/whole.rt:84:1
 returns : tie.Need-returns
 returns c =
     let at-byte2 = c .before .before in

@@ -5,19 +5,13 @@ use native.Mathlib.Omega.{arith}
 use borrow.Author.Needs.{needs}
 use Rattle.session_run.proofs.whole.doubles.Statement.{statement}
 use Rattle.session_run.proofs.whole.doubles.Tie as tie
-use Rattle.session_run.proofs.whole.doubles.Reads as reads
-use Rattle.session_run.proofs.whole.doubles.Lts as lts
-use Rattle.from_file.proofs.run.run.Reads as run-reads
 
--- src/whole.rt:116:16
 slice-aggregate-run : tie.Need-slice-aggregate-run
 slice-aggregate-run c = search needs
 
--- src/whole.rt:116:5
 run-requires : tie.Need-run-requires
 run-requires c κs = search needs
 
--- src/whole.rt:110:1
 returns : tie.Need-returns
 returns c =
     let at-run = c .before in

@@ -7,45 +7,31 @@ use native.Mathlib.Omega.{arith}
 use borrow.Author.Needs.{needs}
 use Rattle.session_run.proofs.whole.face.Statement.{statement}
 use Rattle.session_run.proofs.whole.face.Tie as tie
-use Rattle.session_run.proofs.whole.face.Reads as reads
-use Rattle.session_run.proofs.whole.face.Lts as lts
-use Rattle.from_file.proofs.field.byte.Reads as byte-reads
-use Rattle.from_file.proofs.field.font_size.Reads as font-size-reads
-use Rattle.from_file.proofs.run.run.Reads as run-reads
 
--- src/whole.rt:74:29
 slice-aggregate-byte : tie.Need-slice-aggregate-byte
 slice-aggregate-byte c = search needs
 
--- src/whole.rt:74:9
 byte-requires : tie.Need-byte-requires
 byte-requires c κs = search needs
 
--- src/whole.rt:76:30
 slice-aggregate-byte-2 : tie.Need-slice-aggregate-byte-2
 slice-aggregate-byte-2 c = search needs
 
--- src/whole.rt:76:9
 byte-requires-2 : tie.Need-byte-requires-2
 byte-requires-2 c κs = search needs
 
--- src/whole.rt:78:33
 slice-aggregate-font-size : tie.Need-slice-aggregate-font-size
 slice-aggregate-font-size c = search needs
 
--- src/whole.rt:78:9
 font-size-requires : tie.Need-font-size-requires
 font-size-requires c κs = search needs
 
--- src/whole.rt:80:16
 slice-aggregate-run : tie.Need-slice-aggregate-run
 slice-aggregate-run c = search needs
 
--- src/whole.rt:80:5
 run-requires : tie.Need-run-requires
 run-requires c κs = search needs
 
--- src/whole.rt:68:1
 returns : tie.Need-returns
 returns c =
     let at-run = c .before in

@@ -3,28 +3,19 @@ use borrow.Author.Tests.{eq-eqb, ne-eqb}
 use borrow.Author.Needs.{needs}
 use Rattle.session_run.proofs.whole.join_end.Statement.{statement}
 use Rattle.session_run.proofs.whole.join_end.Tie as tie
-use Rattle.session_run.proofs.whole.join_end.Reads as reads
-use Rattle.session_run.proofs.whole.join_end.Lts as lts
-use Rattle.from_file.proofs.field.byte.Reads as byte-reads
-use Rattle.from_file.proofs.field.float.Reads as float-reads
 
--- src/whole.rt:43:9
 byte-requires : tie.Need-byte-requires
 byte-requires c κs = search needs
 
--- src/whole.rt:46:13
 float-requires : tie.Need-float-requires
 float-requires c κs = search needs
 
--- src/whole.rt:48:13
 byte-requires-2 : tie.Need-byte-requires-2
 byte-requires-2 c κs = search needs
 
--- src/whole.rt:49:9
 same-length : tie.Need-same-length
 same-length c = search needs
 
--- src/whole.rt:49:9
 returns : tie.Need-returns
 returns c =
     let at-byte2 = c .before .before .before in
@@ -33,15 +24,12 @@ returns c =
     let at-byte = at-if1 .before .before .before .before .before in
     laid (told (at-byte .byte .ensures) (laid (then (eq-eqb (at-byte .byte .result .value) 0 (at-if1 .if1 .taken)) (valued-laid (at-float .float .ensures))))) ⨾ valued-laid (at-byte2 .byte2 .ensures)
 
--- src/whole.rt:51:9
 byte-requires-3 : tie.Need-byte-requires-3
 byte-requires-3 c κs = search needs
 
--- src/whole.rt:39:1
 same-length-2 : tie.Need-same-length-2
 same-length-2 c = search needs
 
--- src/whole.rt:39:1
 returns-2 : tie.Need-returns-2
 returns-2 c =
     let at-byte3 = c .before .before .before in

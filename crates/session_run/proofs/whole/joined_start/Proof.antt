@@ -7,27 +7,19 @@ use native.Mathlib.Omega.{arith}
 use borrow.Author.Needs.{needs}
 use Rattle.session_run.proofs.whole.joined_start.Statement.{statement}
 use Rattle.session_run.proofs.whole.joined_start.Tie as tie
-use Rattle.session_run.proofs.whole.joined_start.Reads as reads
-use Rattle.session_run.proofs.whole.joined_start.Lts as lts
-use Rattle.from_file.proofs.field.joined.Reads as joined-reads
 
--- src/whole.rt:103:32
 slice-aggregate-joined : tie.Need-slice-aggregate-joined
 slice-aggregate-joined c = search needs
 
--- src/whole.rt:103:9
 joined-requires : tie.Need-joined-requires
 joined-requires c κs = search needs
 
--- src/whole.rt:105:28
 slice-aggregate-joined-2 : tie.Need-slice-aggregate-joined-2
 slice-aggregate-joined-2 c = search needs
 
--- src/whole.rt:105:9
 joined-requires-2 : tie.Need-joined-requires-2
 joined-requires-2 c κs = search needs
 
--- src/whole.rt:97:1
 returns : tie.Need-returns
 returns c =
     let at-joined2 = c .before .before in

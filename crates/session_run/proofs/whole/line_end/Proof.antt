@@ -6,28 +6,19 @@ use native.Mathlib.Omega.{arith}
 use borrow.Author.Needs.{needs}
 use Rattle.session_run.proofs.whole.line_end.Statement.{statement}
 use Rattle.session_run.proofs.whole.line_end.Tie as tie
-use Rattle.session_run.proofs.whole.line_end.Reads as reads
-use Rattle.session_run.proofs.whole.line_end.Lts as lts
-use Rattle.from_file.proofs.field.byte.Reads as byte-reads
-use Rattle.session_run.proofs.whole.join_end.Reads as join-end-reads
 
--- src/whole.rt:62:27
 slice-aggregate-byte : tie.Need-slice-aggregate-byte
 slice-aggregate-byte c = search needs
 
--- src/whole.rt:62:9
 byte-requires : tie.Need-byte-requires
 byte-requires c κs = search needs
 
--- src/whole.rt:64:21
 slice-aggregate-join-end : tie.Need-slice-aggregate-join-end
 slice-aggregate-join-end c = search needs
 
--- src/whole.rt:64:5
 join-end-requires : tie.Need-join-end-requires
 join-end-requires c κs = search needs
 
--- src/whole.rt:56:1
 returns : tie.Need-returns
 returns c =
     let at-join-end = c .before in

@@ -5,73 +5,55 @@ use native.Mathlib.Omega.{arith}
 use borrow.Author.Needs.{needs}
 use Rattle.session_run.proofs.whole.other_part.Statement.{statement}
 use Rattle.session_run.proofs.whole.other_part.Tie as tie
-use Rattle.session_run.proofs.whole.other_part.Reads as reads
-use Rattle.session_run.proofs.whole.other_part.Lts as lts
-use Rattle.session_run.proofs.whole.alignment.Reads as alignment-reads
-use Rattle.session_run.proofs.whole.doubles.Reads as doubles-reads
-use Rattle.session_run.proofs.whole.face.Reads as face-reads
-use Rattle.session_run.proofs.whole.joined_start.Reads as joined-start-reads
 
--- src/whole.rt:146:9
 doubles-requires : tie.Need-doubles-requires
 doubles-requires c κs = search needs
 
--- src/whole.rt:146:9
 returns : tie.Need-returns
 returns c =
     let at-if1 = c .before in
     let at-args = at-if1 .before .before in
     part-at (at-if1 .if1 .taken) (whole-part (λ n K. is-point (at-args .args .version) n (at-args .args .x) (at-args .args .y) K) (c .doubles .ensures))
 
--- src/whole.rt:149:9
 doubles-requires-2 : tie.Need-doubles-requires-2
 doubles-requires-2 c κs = search needs
 
--- src/whole.rt:149:9
 returns-2 : tie.Need-returns-2
 returns-2 c =
     let at-if2 = c .before in
     let at-args = at-if2 .before .before .before in
     part-at (at-if2 .if2 .taken) (whole-part (λ n K. is-controls (at-args .args .version) n (at-args .args .x) (at-args .args .y) K) (c .doubles2 .ensures))
 
--- src/whole.rt:152:9
 joined-start-requires : tie.Need-joined-start-requires
 joined-start-requires c κs = search needs
 
--- src/whole.rt:152:9
 returns-3 : tie.Need-returns-3
 returns-3 c =
     let at-if3 = c .before in
     let at-args = at-if3 .before .before .before .before in
     part-at (at-if3 .if3 .taken) (whole-part (λ n K. is-join (at-args .args .version) n (at-args .args .x) (at-args .args .y) K) (c .joined-start .ensures))
 
--- src/whole.rt:155:9
 face-requires : tie.Need-face-requires
 face-requires c κs = search needs
 
--- src/whole.rt:155:9
 returns-4 : tie.Need-returns-4
 returns-4 c =
     let at-if4 = c .before in
     let at-args = at-if4 .before .before .before .before .before in
     part-at (at-if4 .if4 .taken) (whole-part (λ n K. is-face (at-args .args .version) n (at-args .args .x) (at-args .args .y) K) (c .face .ensures))
 
--- src/whole.rt:158:9
 doubles-requires-3 : tie.Need-doubles-requires-3
 doubles-requires-3 c κs = search needs
 
--- src/whole.rt:158:9
 returns-5 : tie.Need-returns-5
 returns-5 c =
     let at-if5 = c .before in
     let at-args = at-if5 .before .before .before .before .before .before in
     part-at (at-if5 .if5 .taken) (whole-part (λ n K. is-transformation (at-args .args .version) n (at-args .args .x) (at-args .args .y) K) (c .doubles3 .ensures))
 
--- src/whole.rt:160:5
 alignment-requires : tie.Need-alignment-requires
 alignment-requires c κs = search needs
 
--- src/whole.rt:140:1
 returns-6 : tie.Need-returns-6
 returns-6 c =
     let at-args = c .before .before .before .before .before .before .before in

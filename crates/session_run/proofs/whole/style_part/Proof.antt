@@ -12,22 +12,13 @@ use native.Mathlib.Omega.{arith}
 use borrow.Author.Needs.{needs}
 use Rattle.session_run.proofs.whole.style_part.Statement.{statement}
 use Rattle.session_run.proofs.whole.style_part.Tie as tie
-use Rattle.session_run.proofs.whole.style_part.Reads as reads
-use Rattle.session_run.proofs.whole.style_part.Lts as lts
-use Rattle.from_file.proofs.field.float.Reads as float-reads
-use Rattle.from_file_styles.proofs.marker.markers.Reads as markers-reads
-use Rattle.from_file_styles.proofs.paint.paint.Reads as paint-reads
-use Rattle.session_run.proofs.whole.line_end.Reads as line-end-reads
 
--- src/whole.rt:127:29
 slice-aggregate-paint : tie.Need-slice-aggregate-paint
 slice-aggregate-paint c = search needs
 
--- src/whole.rt:127:9
 paint-requires : tie.Need-paint-requires
 paint-requires c κs = search needs
 
--- src/whole.rt:127:9
 returns : tie.Need-returns
 returns c =
     let at-paint = c .before in
@@ -35,15 +26,12 @@ returns c =
     let at-args = at-if1 .before .before in
     part-at (at-if1 .if1 .taken) (whole-part (λ n K. is-paint (at-args .args .version) n (at-args .args .x) (at-args .args .y) K) (laid-whole (paint (at-args .args .version)) (paint-50 (at-args .args .version)) (omega arith) (omega arith) (at-args .pre .1 .0) (at-paint .paint .ensures)))
 
--- src/whole.rt:130:34
 slice-aggregate-float : tie.Need-slice-aggregate-float
 slice-aggregate-float c = search needs
 
--- src/whole.rt:130:13
 float-requires : tie.Need-float-requires
 float-requires c κs = search needs
 
--- src/whole.rt:131:9
 returns-2 : tie.Need-returns-2
 returns-2 c =
     let at-float = c .before .before in
@@ -51,26 +39,21 @@ returns-2 c =
     let at-args = at-if2 .before .before .before in
     part-at (at-if2 .if2 .taken) (whole-part (λ n K. is-width (at-args .args .version) n (at-args .args .x) (at-args .args .y) K) (laid-whole (field F.float) float-4 (omega arith) (omega arith) (at-args .pre .1 .0) (valued-laid (at-float .float .ensures))))
 
--- src/whole.rt:134:9
 line-end-requires : tie.Need-line-end-requires
 line-end-requires c κs = search needs
 
--- src/whole.rt:134:9
 returns-3 : tie.Need-returns-3
 returns-3 c =
     let at-if3 = c .before in
     let at-args = at-if3 .before .before .before .before in
     part-at (at-if3 .if3 .taken) (whole-part (λ n K. is-line-end (at-args .args .version) n (at-args .args .x) (at-args .args .y) K) (c .line-end .ensures))
 
--- src/whole.rt:136:20
 slice-aggregate-markers : tie.Need-slice-aggregate-markers
 slice-aggregate-markers c = search needs
 
--- src/whole.rt:136:5
 markers-requires : tie.Need-markers-requires
 markers-requires c κs = search needs
 
--- src/whole.rt:120:1
 returns-4 : tie.Need-returns-4
 returns-4 c =
     let at-markers = c .before in
