@@ -46,21 +46,22 @@ pub struct Given {
 }
 
 // It is given those up to the cut, where that is neither before them nor behind the file.
-fn given_to(s: Session, file: &[u8], at: usize, cut: usize) -> Given
+fn given_to(s: Session, file: &[u8], at: usize, cut: u32) -> Given
     requires { ⌜ GivenTo (now file) s at ⌝ }
     ensures { λ r. ⌜ GivenTo (now (file .entry)) (r .session) (r .at) ⌝ }
 {
-    if cut < at {
+    let end = cut as usize;
+    if end < at {
         return Given { session: s, at: at };
     }
-    if file.len() < cut {
+    if file.len() < end {
         return Given { session: s, at: at };
     }
-    let next = pieced(s, &file[at..cut]);
+    let next = pieced(s, &file[at..end]);
     let t = next.session;
     Given {
         session: t,
-        at: cut,
+        at: end,
     }
 }
 
@@ -72,7 +73,7 @@ pub fn verdict_on_pieces(file: &[u8], cuts: &[u32]) -> Answer
     let mut at: usize = 0;
     let mut i: usize = 0;
     while i < cuts.len() {
-        let next = given_to(s, file, at, cuts[i] as usize);
+        let next = given_to(s, file, at, cuts[i]);
         at = next.at;
         s = next.session;
         i = i + 1;
