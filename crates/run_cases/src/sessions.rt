@@ -26,7 +26,7 @@ pub fn put_groups(buffer: &mut Buffer, used: usize, words: &[u32], data: &[u8]) 
         return put_all(buffer, used, b" has no session");
     }
     let cuts = end_of_run(4, words[3], words.len());
-    let file = least(16 + 4 * words[3] as usize, data.len());
+    let file = file_start(words[3], data.len());
     put_sessions(
         buffer,
         used,
@@ -35,6 +35,13 @@ pub fn put_groups(buffer: &mut Buffer, used: usize, words: &[u32], data: &[u8]) 
         &words[4..cuts],
         &data[file..],
     )
+}
+
+// The file stands behind four words and the cuts.
+fn file_start(cuts: u32, all: usize) -> usize
+    ensures { λ r. ⌜ r ≤ all ⌝ }
+{
+    least(16 + 4 * cuts as usize, all)
 }
 
 // A session behind some pieces, and the hash of what the calls answered.
@@ -55,18 +62,34 @@ fn put_sessions(
 ) -> usize
     ensures { λ r. ⌜ r ≤ 4096 ⌝ }
 {
-    let half = least(middle as usize, file.len());
     let first = open_and_give(lent, cuts, file);
     let whole = first.session;
     let used = put_verdict(buffer, used, whole, first.sum);
     let spent = after_verdict(whole);
     let used = put_spent(buffer, used, spent, cuts, file);
-    let second = open_and_give(spent, cuts, &file[0..half]);
-    let begun = second.session;
-    let used = put_verdict(buffer, used, begun, second.sum);
-    let used = put_spent(buffer, used, after_verdict(begun), cuts, &file[half..]);
+    let used = put_half(buffer, used, spent, middle, cuts, file);
     let used = put_made_up(buffer, used, lent, pieced(lent, file));
     put_made_up(buffer, used, lent, judged(lent))
+}
+
+// A spent session is opened again, with the verdict in the middle of the file.
+fn put_half(
+    buffer: &mut Buffer,
+    used: usize,
+    spent: Session,
+    middle: u32,
+    cuts: &[u32],
+    file: &[u8],
+) -> usize
+    ensures { λ r. ⌜ r ≤ 4096 ⌝ }
+{
+    let half = least(middle as usize, file.len());
+    let front = &file[0..half];
+    let back = &file[half..];
+    let given = open_and_give(spent, cuts, front);
+    let begun = given.session;
+    let used = put_verdict(buffer, used, begun, given.sum);
+    put_spent(buffer, used, after_verdict(begun), cuts, back)
 }
 
 // A session that is opened, whatever it holds, and given a file.
@@ -135,7 +158,10 @@ fn cut_at(start: usize, cut: u32, all: usize) -> usize
     if place < start {
         return start;
     }
-    least(place, all)
+    if all < place {
+        return all;
+    }
+    place
 }
 
 // A session that opening did not begin, and what a call made of it. Where it was refused: the answer, and 1 if the session is as it was. Nothing else is

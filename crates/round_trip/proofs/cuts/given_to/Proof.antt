@@ -29,7 +29,7 @@ pieced-requires c κs = search needs
 
 -- src/cuts.rt:49:1
 returns-3 : tie.Need-returns-3
-returns-3 c = 
+returns-3 c =
     let at-pieced = c .before in
     let at-pre = at-pieced .before .before .before .before .before in
     given-more (at-pre .pre) (omega arith) (omega arith) (at-pieced .pieced .ensures)

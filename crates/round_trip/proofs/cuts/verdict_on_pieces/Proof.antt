@@ -73,7 +73,7 @@ judged-requires c κs = search needs
 
 -- src/cuts.rt:69:1
 returns : tie.Need-returns Inv-loop μ-loop
-returns c = 
+returns c =
     let at-judged = c .before in
     let at-pieced = at-judged .before .before in
     let at-loop = at-pieced .before .before .before in
