@@ -10,46 +10,38 @@ import sys
 import jdr
 
 
-def show(call, answer):
-    print(f"{call}: {answer.number} {answer.offset} {answer.rows} {answer.words}")
+def counts(plan):
+    return f"{len(plan.objects)} {len(plan.bodies)}"
 
 
 def is_sheet(name):
     return name.endswith(".sheet")
 
 
-def read_table(name, file):
-    """The table, or None. Reads without room first: the answer is the refusal, or has the counts that are needed."""
-    call, read = ("sheet_read", jdr.sheet_read) if is_sheet(name) else ("read", jdr.read)
-    answer = read(file, jdr.words(0), jdr.words(0))
-    table = None
-    if answer.number == jdr.CONTENTS_TOO_SHORT:
-        table = jdr.words(answer.rows * jdr.ROW_WORDS), jdr.words(answer.words)
-        answer = read(file, *table)
-    show(call, answer)
-    return table if answer.number == jdr.ACCEPTED else None
+def read_plan(name, file):
+    """The plan, or None where it is refused."""
+    call, read = ("sheet_read", jdr.Plan.read_sheet) if is_sheet(name) else ("read", jdr.Plan.read)
+    try:
+        plan = read(file)
+    except jdr.Refused as refusal:
+        print(f"{call}: {refusal.number} {refusal.offset} 0 0")
+        return None
+    print(f"{call}: 0 {len(file)} {counts(plan)}")
+    return plan
 
 
-def comes_back(table, name, file):
-    """Whether the table is written as the file that it was read from; a plan's true flags are written as 1, whatever they were."""
-    call, write = ("sheet_write", jdr.sheet_write) if is_sheet(name) else ("write", jdr.write)
-    show("check", jdr.check(*table))
-    copy = jdr.octets(len(file))
-    answer = write(*table, copy)
-    show(call, answer)
-    written = answer.number == jdr.ACCEPTED and answer.offset == len(file)
-    if written:
-        print("the same file" if bytes(copy) == file else "the file with each true flag made 1")
-    return written
+def comes_back(plan, name, file):
+    """Whether the plan is written as long as the file that it was read from; a plan's true flags are written as 1, whatever they were."""
+    print(f"check: 0 {plan.check()} {counts(plan)}")
+    call, copy = ("sheet_write", plan.write_sheet()) if is_sheet(name) else ("write", plan.write())
+    print(f"{call}: 0 {len(copy)} {counts(plan)}")
+    print("the same file" if copy == file else "the file with each true flag made 1")
+    return len(copy) == len(file)
 
 
-def store(table, name):
-    """Writes without room first: the answer then has as offset the bytes that are needed."""
-    sheet = jdr.octets(jdr.sheet_write(*table, jdr.octets(0)).offset)
-    answer = jdr.sheet_write(*table, sheet)
-    show("sheet_write", answer)
-    if answer.number != jdr.ACCEPTED:
-        return False
+def store(plan, name):
+    sheet = plan.write_sheet()
+    print(f"sheet_write: 0 {len(sheet)} {counts(plan)}")
     try:
         with open(name, "wb") as target:
             target.write(sheet)
@@ -58,52 +50,30 @@ def store(table, name):
     return True
 
 
-def groups_around(contents, row):
-    """The rows of the groups around a row: the parent numbers lead from the innermost group to the outer one, row 0."""
-    while row != 0:
-        row = contents[row * jdr.ROW_WORDS + 1]
-        yield row
-
-
-def box(table, row):
-    """The box around a path, or around the path of a text along one, as words to print: left, bottom, right and top. None for a row with no
-    path.
-    """
-    sides = jdr.box(*table, row)
-    if sides.number == jdr.NOT_A_NUMBER:
+def box(found):
+    """The box around a path, or around the path of a text along one, as words to print: left, bottom, right and top."""
+    try:
+        sides = found.extent
+    except jdr.Refused:
         return ["box not a number"]
-    if sides.number != jdr.ACCEPTED:
+    return [] if sides is None else ["box"] + [f"{side:.2f}" for side in sides]
+
+
+def shown(found):
+    """What is shown of a text, along a path or not, as words to print. Half of a pair that stands alone becomes the replacement character."""
+    if found.shown is None:
         return []
-    return ["box"] + [f"{side:.2f}" for side in (sides.left, sides.bottom, sides.right, sides.top)]
+    return ["shows", found.shown.encode("utf-16", "surrogatepass").decode("utf-16", "replace")]
 
 
-def shown(table, row):
-    """What is shown of a text, along a path or not, as words to print: the LaTeX alternative if it has a char, otherwise the text. None for
-    a row that is no text.
-    """
-    text = jdr.text(*table, row)
-    if text.number != jdr.ACCEPTED:
-        return []
-    start, length = text.text_start, text.text_length
-    if text.alternative_length != 0:
-        start, length = text.alternative_start, text.alternative_length
-    return ["shows", jdr.string(table[1][start : start + length])]
-
-
-def list_label(table, label):
-    """Lists without room first: the answer is already 0 where there are no entries, or has as offset how many are needed."""
-    entries = jdr.words(0)
-    answer = jdr.list(*table, label, entries)
-    if answer.number == jdr.LIST_TOO_SHORT:
-        entries = jdr.words(answer.offset)
-        answer = jdr.list(*table, label, entries)
-    show("list", answer)
-    contents = table[0]
-    for row in entries[: answer.rows]:
-        kind = jdr.KINDS[contents[row * jdr.ROW_WORDS]]
-        inside = groups_around(contents, row) if row else ["no group"]
-        print(f"row {row} {kind} inside", *inside, *box(table, row), *shown(table, row))
-    return answer.number == jdr.ACCEPTED
+def list_label(plan, label):
+    found = plan.find(label)
+    print(f"list: 0 0 {len(found)} 0")
+    for each in found:
+        inside = [group.row for group in each.groups] or ["no group"]
+        kind = each.kind.name.lower().replace("_", "")
+        print(f"row {each.row} {kind} inside", *inside, *box(each), *shown(each))
+    return True
 
 
 def run(name, label=None, sheet=None):
@@ -111,7 +81,7 @@ def run(name, label=None, sheet=None):
     if label is not None:
         try:
             # the bytes of the command line, whatever the locale takes them for
-            label = jdr.chars(os.fsencode(label).decode("utf-8"))
+            label = os.fsencode(label).decode("utf-8")
         except ValueError:
             fail("the label is not UTF-8")
     try:
@@ -119,12 +89,12 @@ def run(name, label=None, sheet=None):
             file = source.read()
     except OSError:
         fail("the file cannot be read")
-    table = read_table(name, file)
-    if table is None:
+    plan = read_plan(name, file)
+    if plan is None:
         return False
     if sheet is not None:
-        return store(table, sheet)
-    return comes_back(table, name, file) if label is None else list_label(table, label)
+        return store(plan, sheet)
+    return comes_back(plan, name, file) if label is None else list_label(plan, label)
 
 
 def fail(message):

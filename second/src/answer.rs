@@ -51,6 +51,15 @@ pub struct TextAnswer {
     pub text_length: u32,
 }
 
+/// The answer of the description question: a place in the whole run of bodies.
+#[repr(C)]
+#[derive(Clone, Copy, Debug, Default, PartialEq, Eq)]
+pub struct DescriptionAnswer {
+    pub number: u32,
+    pub start: u32,
+    pub length: u32,
+}
+
 /// The answer of the box question: the least x and y, then the greatest x and y.
 #[repr(C)]
 #[derive(Clone, Copy, Debug, Default)]
@@ -94,6 +103,18 @@ impl TextAnswer {
     /// The struct's words in order.
     pub fn words(&self) -> [u32; 5] {
         [self.number, self.alternative_start, self.alternative_length, self.text_start, self.text_length]
+    }
+}
+
+impl DescriptionAnswer {
+    /// With a refusal the place is 0.
+    pub fn refused(number: u32) -> DescriptionAnswer {
+        DescriptionAnswer { number, ..DescriptionAnswer::default() }
+    }
+
+    /// The struct's words in order.
+    pub fn words(&self) -> [u32; 3] {
+        [self.number, self.start, self.length]
     }
 }
 

@@ -1,9 +1,9 @@
-//! The paint question, the text question and the text to show (01, 'Paint' and 'Text to show').
+//! The questions about a paint, a text and a description, and the text to show (01, 'Paint' and 'Text to show').
 //!
-//! Both questions give 16 for a bad table, 6 for a row out of range, 7 for a row with no such part,
-//! in that order. They answer a text along a path as a text (02, R-1).
+//! They give 16 for a bad table, 6 for a row out of range, 7 for a row with no such part,
+//! in that order. They answer a text along a path as a text (02, R-1). Every row has a description.
 
-use crate::answer::{Color, PaintAnswer, TextAnswer};
+use crate::answer::{Color, DescriptionAnswer, PaintAnswer, TextAnswer};
 use crate::check::Good;
 use crate::layout;
 use crate::list::{opened, Opened, Part};
@@ -132,6 +132,20 @@ fn paint_words(version: Version, paint: &Paint) -> usize {
     let mut words = Vec::new();
     layout::paint(&mut Words(&mut words), version, paint);
     words.len()
+}
+
+/// The description question: the place of its chars, with which every body ends from 1.2 on. Below, 0 and 0.
+pub fn description(good: Option<&Good>, row: u32) -> DescriptionAnswer {
+    let (good, object) = match object(good, row) {
+        Err(number) => return DescriptionAnswer::refused(number),
+        Ok(found) => found,
+    };
+    if !good.drawing.version.has_descriptions() {
+        return DescriptionAnswer::default();
+    }
+    let end = good.table.row(row).map_or(0, |words| words[2] + words[3]);
+    let length = object.description.len() as u32;
+    DescriptionAnswer { number: 0, start: end - length, length }
 }
 
 /// The text to show: the alternative if it has a char, otherwise the plain text, as that very run.

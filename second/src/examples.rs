@@ -33,6 +33,7 @@ pub fn plans() -> Vec<(String, Vec<u8>)> {
         ("aisles", write::file(&aisles())),
         ("bays", write::file(&bays())),
         ("converter", converter(&bays())),
+        ("floor", write::file(&floor())),
         ("hall", hall),
         ("places", write::file(&places())),
         ("plan-a", plans::plan_a()),
@@ -113,6 +114,65 @@ fn aisles() -> Drawing {
     Drawing { version, settings: Settings::None, outer }
 }
 
+/// A floor to be drawn and counted: bays of tools, each tool an outline with its own label and its name beside it, in a colour of every kind; a tool with
+/// round ends; a bay with nothing in it yet; a text along the aisle; and what is no tool, the walls and a door.
+fn floor() -> Drawing {
+    let [.., version] = Version::ALL;
+    let yellow = || Plain::Rgb([1.0f32, 0.8, 0.4, 1.0].map(f32::to_bits));
+    let green = Plain::Cmyk([0.4f32, 0.0, 0.2, 0.1, 1.0].map(f32::to_bits));
+    let grey = Plain::Grey([0.8f32, 1.0].map(f32::to_bits));
+    let blue = Plain::Hsb([220.0f32, 0.3, 1.0, 0.8].map(f32::to_bits));
+    let tool = |name: &str, left: f64, top: f64, fill: Plain| {
+        let outline = block(left, top, 60.0, 30.0);
+        [outlined(outline, BLACK, fill, name), written(name, left + 4.0, top + 18.0)]
+    };
+    let etchers = [tool("etcher 1", 15.0, 15.0, yellow()), tool("etcher 2", 95.0, 15.0, yellow())];
+    let bay_1 = [&etchers[..], &[tool("stepper 1", 175.0, 15.0, green)]].concat();
+    let furnace = outlined(rounded(15.0, 115.0), BLACK, blue, "furnace 1");
+    let bay_2 = [[furnace, written("furnace 1", 19.0, 133.0)], tool("wet bench 1", 95.0, 115.0, grey)];
+    let aisle = Outline {
+        closed: false,
+        start: point(15.0, 85.0),
+        segments: vec![Segment::Bezier([point(80.0, 60.0), point(170.0, 110.0), point(235.0, 85.0)])],
+    };
+    let mut along = text("Aisle A", "");
+    along.paint = Paint::Plain(BLACK);
+    let mut door = Bitmap { name: chars("door.png"), description: chars("door"), ..plain_bitmap(1) };
+    door.transformation = [1.0f64, 0.0, 0.0, 1.0, 205.0, 155.0].map(f64::to_bits);
+    let objects = vec![
+        outlined(block(0.0, 0.0, 250.0, 160.0), BLACK, Plain::Transparent, ""),
+        group("bay 1", bay_1.concat()),
+        Object::TextPath(TextPath { text: along, outline: aisle }),
+        group("bay 2", bay_2.concat()),
+        group("bay 3", vec![]),
+        Object::Bitmap(door),
+    ];
+    let outer = Group { objects, description: chars("floor") };
+    Drawing { version, settings: Settings::None, outer }
+}
+
+const BLACK: Plain = Plain::Rgb([0, 0, 0, ONE]);
+
+/// A text that names what it stands on, without a label of its own.
+fn written(name: &str, x: f64, y: f64) -> Object {
+    let mut text = text(name, "");
+    text.style.transformation = [1.0f64, 0.0, 0.0, 1.0, x, y].map(f64::to_bits);
+    text.paint = Paint::Plain(BLACK);
+    Object::Text(text)
+}
+
+/// As wide and high as a tool, with round ends.
+fn rounded(left: f64, top: f64) -> Outline {
+    let at = |x: f64, y: f64| point(left + x, top + y);
+    let segments = vec![
+        Segment::Line(at(45.0, 0.0)),
+        Segment::Bezier([at(65.0, 0.0), at(65.0, 30.0), at(45.0, 30.0)]),
+        Segment::Line(at(15.0, 30.0)),
+        Segment::Bezier([at(-5.0, 30.0), at(-5.0, 0.0), at(15.0, 0.0)]),
+    ];
+    Outline { closed: true, start: at(15.0, 0.0), segments }
+}
+
 fn group(description: &str, objects: Vec<Object>) -> Object {
     Object::Group(Group { objects, description: chars(description) })
 }
@@ -162,12 +222,13 @@ fn point(x: f64, y: f64) -> Point {
 
 /// Three sides of a rectangle, which the path closes.
 fn rectangle() -> Outline {
-    let corners = [point(40.0, 0.0), point(40.0, 20.0), point(0.0, 20.0)];
-    Outline {
-        closed: true,
-        start: point(0.0, 0.0),
-        segments: corners.into_iter().map(Segment::Line).collect(),
-    }
+    block(0.0, 0.0, 40.0, 20.0)
+}
+
+/// The same somewhere.
+fn block(x: f64, y: f64, width: f64, height: f64) -> Outline {
+    let corners = [point(x + width, y), point(x + width, y + height), point(x, y + height)];
+    Outline { closed: true, start: point(x, y), segments: corners.into_iter().map(Segment::Line).collect() }
 }
 
 fn path(line: Plain, fill: Plain, description: &str) -> Object {

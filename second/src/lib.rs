@@ -24,5 +24,6 @@ pub mod read;
 pub mod session;
 pub mod sheet;
 pub mod table;
+pub mod uptime;
 pub mod version;
 pub mod write;

@@ -1,7 +1,7 @@
 //! The linked library: the C functions of the interface. A call that has a feature of its own is None without it, since a library
 //! that lacks the call could not be linked.
 
-use second::answer::{Answer, BoxAnswer, PaintAnswer, TextAnswer};
+use second::answer::{Answer, BoxAnswer, DescriptionAnswer, PaintAnswer, TextAnswer};
 use second::session::LentSession;
 
 #[link(name = "jdr_c", kind = "static")]
@@ -65,6 +65,15 @@ extern "C" {
         bodies_len: usize,
         row: u32,
     ) -> TextAnswer;
+
+    #[cfg(feature = "description")]
+    fn jdr_description(
+        contents: *const u32,
+        contents_len: usize,
+        bodies: *const u32,
+        bodies_len: usize,
+        row: u32,
+    ) -> DescriptionAnswer;
 
     #[cfg(feature = "sheet_write")]
     fn jdr_sheet_write(
@@ -160,6 +169,16 @@ pub fn text(contents: Given<u32>, bodies: Given<u32>, row: u32) -> Option<TextAn
 
 #[cfg(not(feature = "text"))]
 pub fn text(_: Given<u32>, _: Given<u32>, _row: u32) -> Option<TextAnswer> {
+    None
+}
+
+#[cfg(feature = "description")]
+pub fn description(contents: Given<u32>, bodies: Given<u32>, row: u32) -> Option<DescriptionAnswer> {
+    Some(unsafe { jdr_description(contents.0, contents.1, bodies.0, bodies.1, row) })
+}
+
+#[cfg(not(feature = "description"))]
+pub fn description(_: Given<u32>, _: Given<u32>, _row: u32) -> Option<DescriptionAnswer> {
     None
 }
 

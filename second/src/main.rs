@@ -7,7 +7,7 @@ mod compare;
 #[cfg(feature = "linked")]
 mod library;
 
-use second::{examples, lister, make, pipe, read, table};
+use second::{examples, lister, make, pipe, read, table, uptime};
 use std::fs;
 use std::path::Path;
 use std::process::ExitCode;
@@ -17,6 +17,7 @@ second read FILE                         the answer, and the lister's lines of a
 second plan FILE [LABEL]                 what the programs in examples/ print for a plan or a sheet
 second plan store FILE SHEET             the same where they store a plan's sheet
 second pipe BYTES <FILE                  what the programs named pipe print, with so many bytes at a time
+second uptime FILE LIST HOURS            what the uptime program prints
 second make-examples DIR                 their plans and sheets
 second make-cases DIR [SEED]             cases of all calls
 second compare [--seconds N] [--seed S] [--out DIR] [--trace FILE]
@@ -34,6 +35,7 @@ fn main() -> ExitCode {
         ["plan", file, label] => plan(file, Some(label)),
         ["plan", "store", file, sheet] => store(file, sheet),
         ["pipe", most] => number(most).and_then(|most| piped(most as usize)),
+        ["uptime", file, list, hours] => uptime_of(file, list, hours),
         ["make-examples", folder] => make_examples(Path::new(folder)),
         ["make-cases", folder] => make_cases(folder, 1),
         ["make-cases", folder, seed] => number(seed).and_then(|seed| make_cases(folder, seed)),
@@ -91,6 +93,14 @@ fn piped(most: usize) -> Result<ExitCode, String> {
     let (line, well) = pipe::line(std::io::stdin().lock(), most).map_err(|_| "the plan cannot be read")?;
     println!("{line}");
     Ok(ExitCode::from(u8::from(!well)))
+}
+
+fn uptime_of(file: &str, list: &str, hours: &str) -> Result<ExitCode, String> {
+    let file = fs::read(file).map_err(|_| "the file cannot be read")?;
+    let list = fs::read_to_string(list).map_err(|_| "the list cannot be read")?;
+    let (lines, status) = uptime::lines(&file, &list, hours.parse().map_err(|_| "no hours")?);
+    print!("{lines}");
+    Ok(ExitCode::from(status))
 }
 
 fn make_examples(folder: &Path) -> Result<ExitCode, String> {

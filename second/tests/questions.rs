@@ -3,8 +3,8 @@
 mod hand;
 
 use hand::{bitmap_1_1, empty_1_0, empty_1_2, path_1_0, path_1_4, text_1_2, text_path_1_5};
-use second::answer::{Answer, TextAnswer};
-use second::ask::{paint, shown, text};
+use second::answer::{Answer, DescriptionAnswer, TextAnswer};
+use second::ask::{description, paint, shown, text};
 use second::check::{good, Good};
 use second::generate::special::{of_depth, sampler};
 use second::generate::{self, chars};
@@ -189,4 +189,20 @@ fn the_text_to_show_is_that_very_run() {
     assert!(std::ptr::eq(shown(&alternative, &plain), &alternative[..]));
     assert!(std::ptr::eq(shown(&[], &plain), &plain[..]));
     assert_eq!(shown::<u32>(&[], &[]), &[0; 0]);
+}
+
+#[test]
+fn descriptions_by_hand() {
+    let place = |number, start, length| DescriptionAnswer { number, start, length };
+    // The outer group's body ends the bodies: a count, a flow frame flag, and a length of 0. The text's stands before it.
+    let good = table_of(&text_1_2());
+    let words = good.table.words();
+    assert_eq!(description(Some(&good), 0), place(0, words, 0));
+    assert_eq!(description(Some(&good), 1), place(0, words - 4, 1));
+    assert_eq!(good.table.bodies[words as usize - 4], u32::from(b'm'));
+    assert_eq!(description(Some(&good), 2), place(6, 0, 0));
+    assert_eq!(description(None, 2), place(16, 0, 0));
+    let below = table_of(&bitmap_1_1());
+    assert_eq!(description(Some(&below), 3), place(0, 0, 0));
+    assert_eq!(description(Some(&below), 4), place(6, 0, 0));
 }

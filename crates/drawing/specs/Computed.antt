@@ -10,17 +10,18 @@ use Rattle.drawing.specs.declared.PaintAnswer.{PaintAnswer}
 use Rattle.drawing.specs.declared.PaintAnswer.the-variants.{Refused}
 use Rattle.drawing.specs.declared.Which.{Which}
 use Rattle.drawing.specs.declared.TextAnswer.{TextAnswer}
+use Rattle.drawing.specs.declared.DescriptionAnswer.{DescriptionAnswer}
 use Rattle.drawing.specs.declared.ExtentAnswer.{ExtentAnswer}
 use Rattle.drawing.specs.String.{String}
 use Rattle.drawing.specs.Drawing.{Drawing}
 use Rattle.drawing.specs.Reading.{Reading, drawing, refusal, drawingOf}
-use Rattle.drawing.specs.Table.{startIn}
+use Rattle.drawing.specs.Table.{startIn, endIn}
 use Rattle.drawing.specs.TableDrawing.{drawingOfTable}
 use Rattle.drawing.specs.Sheet.{numberBytes}
 use Rattle.drawing.specs.SheetDrawing.{drawingOfSheet}
 use Rattle.drawing.specs.Answers.{ReadResult, unread, roomFault, stored, tableRefused, tableChecked, Output, nothingStored, tableWritten, sheetWritten, sheetRead, sheetRefused, tableListed}
 use Rattle.drawing.specs.Extent.{ExtentGiven, noExtent, extentAsked}
-use Rattle.drawing.specs.Questions.{partOf, paintAsked, TextGiven, noText, textPart, textPlaces}
+use Rattle.drawing.specs.Questions.{partOf, paintAsked, TextGiven, noText, textPart, textPlaces, noDescription, descriptionPart, descriptionPlace}
 
 -- What a call comes to for what has a drawing, as a table or a sheet, and for what has none.
 abbrev pub fromTable : {R : Type 0} → (Drawing → R) → R → Option Drawing → R
@@ -85,3 +86,10 @@ textIn contents row d = textValue (textPlaces (startIn contents row) (d .version
 
 abbrev pub textAnswer : (contents bodies : List ℕ) → ℕ → TextAnswer
 textAnswer contents bodies row = fromTable (textIn contents row) (textValue (noText noTable)) (drawingOfTable contents bodies)
+
+-- The description whose body ends where the table's row says.
+abbrev pub descriptionIn : (contents : List ℕ) → ℕ → Drawing → DescriptionAnswer
+descriptionIn contents row d = descriptionPlace (d .version) (endIn contents row) (partOf descriptionPart row d)
+
+abbrev pub descriptionAnswer : (contents bodies : List ℕ) → ℕ → DescriptionAnswer
+descriptionAnswer contents bodies row = fromTable (descriptionIn contents row) (noDescription noTable) (drawingOfTable contents bodies)

@@ -1,12 +1,13 @@
--- What the paint question and the text question answer, and which of two texts is shown (01, 'Paint', 'Text to show').
+-- What the questions about a paint, a text and a description answer, and which of two texts is shown (01, 'Paint', 'Text to show').
 use mathlib.Core.Path.{_≡_}
 use mathlib.Core.Bool.{cond}
 use mathlib.Core.Option.{Option, none, some, Option·map}
-use Prim.Native.Nat.{ℕ, _+_, _≤_}
+use Prim.Native.Nat.{ℕ, _+_, _-_, _≤_}
 use mathlib.Core.List.{List, []}
 use lib.ListN.{length, take, drop, getElem?}
-use lib.Dec.{ltb}
+use lib.Dec.{ltb, leb}
 use lib.Ieee.{Float, binary32, ofBits}
+use Rattle.drawing.specs.Limits.{v1-2}
 use Rattle.drawing.specs.Numbers.{noRow, noPart}
 use Rattle.drawing.specs.declared.Paint as PaintEnum
 use Rattle.drawing.specs.declared.Paint.the-variants as PaintCase
@@ -16,6 +17,7 @@ use Rattle.drawing.specs.declared.Which.{Which}
 use Rattle.drawing.specs.declared.Which.the-variants.{Line, Fill, Text}
 use Rattle.drawing.specs.declared.Span.{Span}
 use Rattle.drawing.specs.declared.TextAnswer.{TextAnswer}
+use Rattle.drawing.specs.declared.DescriptionAnswer.{DescriptionAnswer}
 use Rattle.drawing.specs.declared.Answer.{Answer}
 use Rattle.drawing.specs.String.{String, string}
 use Rattle.drawing.specs.Paint as P
@@ -23,8 +25,8 @@ use Rattle.drawing.specs.Text as T
 use Rattle.drawing.specs.Object.{Object, leaf, group, Leaf, path, text, bitmap, textPath}
 use Rattle.drawing.specs.ObjectId.{pathOf}
 use Rattle.drawing.specs.Drawing.{Drawing}
-use Rattle.drawing.specs.Table.{wordsOf, startIn, contentsOf}
-use Rattle.drawing.specs.Order.{objectsOf}
+use Rattle.drawing.specs.Table.{wordsOf, startIn, endIn, contentsOf}
+use Rattle.drawing.specs.Order.{objectsOf, descriptionOf}
 use Rattle.drawing.specs.Answers.{answer}
 
 -- ---- asking about a part of a row's object
@@ -187,6 +189,27 @@ alternativeOf (some l) = l .alternative
 pub record CharsAt (bodies : List ℕ) (place : Span) (chars : String) : Type 0 where
   pub inside : place .start + place .length ≤ length bodies
   pub chars-are : take (place .length) (drop (place .start) bodies) ≡ chars
+
+-- ---- the description question
+
+-- A description's chars are the last words of its body, which ends here. Below 1.2 a body has none.
+abbrev pub descriptionSpan : (version end : ℕ) → String → Span
+descriptionSpan v end chars = cond (leb v1-2 v) (span (end - length chars) chars) noSpan
+
+-- With a refusal the place is 0.
+abbrev pub noDescription : ℕ → DescriptionAnswer
+noDescription n = record { number = n; chars = noSpan }
+
+abbrev pub descriptionPlace : (version end : ℕ) → Found String → DescriptionAnswer
+descriptionPlace v end (refusal n) = noDescription n
+descriptionPlace v end (part chars) = record { number = 0; chars = descriptionSpan v end chars }
+
+-- Every object has a description.
+abbrev pub descriptionPart : Object → Option String
+descriptionPart o = some (descriptionOf o)
+
+abbrev pub descriptionAsked : ℕ → Drawing → DescriptionAnswer
+descriptionAsked row d = descriptionPlace (d .version) (endIn (contentsOf d) row) (partOf descriptionPart row d)
 
 -- ---- the text to show
 

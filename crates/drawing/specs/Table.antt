@@ -89,6 +89,13 @@ parentIn contents n = getD contents (rowWidth * n + 1) 0
 abbrev pub startIn : List ℕ → ℕ → ℕ
 startIn contents n = getD contents (rowWidth * n + 2) 0
 
+abbrev pub sizeIn : List ℕ → ℕ → ℕ
+sizeIn contents n = getD contents (rowWidth * n + 3) 0
+
+-- Where the body of a row ends: one past its last word.
+abbrev pub endIn : List ℕ → ℕ → ℕ
+endIn contents n = startIn contents n + sizeIn contents n
+
 -- The rows of an object and of all that it holds: its parent's row, its own, and where the next body begins.
 abbrev mutual
   pub contents : Object → (version parent own at : ℕ) → List ℕ

@@ -82,6 +82,13 @@ pub struct TextAnswer {
     pub text: Span,
 }
 
+// The answer of the description question: the number, and where the description's chars stand.
+#[repr(C)]
+pub struct DescriptionAnswer {
+    pub number: u32,
+    pub chars: Span,
+}
+
 // The box around an outline: the least and the greatest coordinates.
 #[repr(C)]
 pub struct Extent {

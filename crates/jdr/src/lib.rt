@@ -1,10 +1,11 @@
 // The calls of the library, for other programs: each with its contract, which decides its answer and all lent memory for every input. What each
 // promises stands in crates/promises/specs/Promises.antt, from top to bottom. The numbers of answers are 01's.
-ghost use Rattle.promises.specs.Promises.{Reads, Checks, Writes, WritesSheet, ReadsSheet, Lists, Paints, Texts, Extents};
+ghost use Rattle.promises.specs.Promises.{Reads, Checks, Writes, WritesSheet, ReadsSheet, Lists, Paints, Texts, Descriptions, Extents};
 ghost use mathlib.Core.Path.{_≡_};
 ghost use lib.ListN.{length};
 ghost use Rattle.drawing.specs.Questions.{shown};
 pub use drawing::Answer;
+pub use drawing::DescriptionAnswer;
 pub use drawing::Extent;
 pub use drawing::ExtentAnswer;
 pub use drawing::PaintAnswer;
@@ -73,6 +74,14 @@ pub fn text(contents: &[u32], bodies: &[u32], row: u32) -> TextAnswer
     ensures { λ r. ⌜ Texts (now (contents .entry)) (now (bodies .entry)) row r ⌝ }
 {
     questions::text::text(contents, bodies, row)
+}
+
+// Where the chars of the description of a row's object stand in the bodies. Below 1.2 there are none: number 0, start and length 0. Refused with 16 where there is
+// no such table, 6 where there is no such row; start and length are then 0.
+pub fn description(contents: &[u32], bodies: &[u32], row: u32) -> DescriptionAnswer
+    ensures { λ r. ⌜ Descriptions (now (contents .entry)) (now (bodies .entry)) row r ⌝ }
+{
+    questions::description::description(contents, bodies, row)
 }
 
 // The box around the outline of a row's path, or text along a path: the least and the greatest coordinates of its points, control points included. A refusal

@@ -1,9 +1,10 @@
 // The calls of `jdr` for programs in other languages, under names of C and with C's way of passing: a slice is a pointer and a length in elements, an
 // answer a struct by value. include/jdr.h declares them. Each has the contract of the call that it passes on to (`jdr_paint` the same, said of a struct),
 // and asks nothing of its inputs but what C cannot say: that a run is aligned and as long as it is said to be, and that one lent for writing overlaps no other.
-ghost use Rattle.promises.specs.Promises.{Reads, Checks, Writes, WritesSheet, ReadsSheet, Lists, Texts, Extents};
+ghost use Rattle.promises.specs.Promises.{Reads, Checks, Writes, WritesSheet, ReadsSheet, Lists, Texts, Descriptions, Extents};
 ghost use Rattle.jdr_c.specs.Values.{PaintsForC};
 use jdr::Answer;
+use jdr::DescriptionAnswer;
 use jdr::ExtentAnswer;
 use jdr::TextAnswer;
 
@@ -93,6 +94,14 @@ pub extern "C" fn jdr_text(contents: &[u32], bodies: &[u32], row: u32) -> TextAn
     ensures { λ r. ⌜ Texts (now (contents .entry)) (now (bodies .entry)) row r ⌝ }
 {
     jdr::text(contents, bodies, row)
+}
+
+// `jdr::description`, whose answer is C's struct as it is: a number, a start and a length.
+#[no_mangle]
+pub extern "C" fn jdr_description(contents: &[u32], bodies: &[u32], row: u32) -> DescriptionAnswer
+    ensures { λ r. ⌜ Descriptions (now (contents .entry)) (now (bodies .entry)) row r ⌝ }
+{
+    jdr::description(contents, bodies, row)
 }
 
 // `jdr::extent`, whose answer is C's struct as it is: a number and four doubles.

@@ -23,6 +23,7 @@ pub mod RowBodies
 pub mod RowBodyLaws
 pub mod LeafPlaceLaws
 pub mod TextPlaceLaws
+pub mod DescriptionLaws
 pub mod AnswerLaws
 pub mod RoomLaws
 pub mod ParseLaws

@@ -2,7 +2,7 @@
 use mathlib.Core.Path.{_≡_, refl, sym, ap, subst, subst₂, _∙_}
 use Prim.Native.Nat.{ℕ, _+_, _≤_}
 use native.Mathlib.Omega.{arith}
-use mathlib.Core.List.{List, _++_}
+use mathlib.Core.List.{List}
 use lib.ListN.{length, length-append}
 use Rattle.format.specs.Layout.{field, _&_}
 use Rattle.format.specs.Alternative.{chosen}
@@ -17,19 +17,11 @@ use Rattle.drawing.specs.KindLaws.{leaf-letter, leaf-no-group}
 use Rattle.drawing.specs.Order.{descriptionOf}
 use Rattle.laws.specs.RowBodies.{ownWords, RowBody}
 use Rattle.laws.specs.RowBodyLaws.{body-here, leaf-here}
-use Rattle.laws.specs.WordLaws.{pair-words, late-end}
+use Rattle.laws.specs.WordLaws.{late-end}
+use Rattle.laws.specs.DescriptionLaws.{frontWords, front-words}
 use Rattle.laws.specs.Standing.{Here, Behind}
 use Rattle.laws.specs.StandingLaws.{here-as, here-behind, here-first, here-next, here-later, next-ends}
 use Rattle.places.specs.Rows.{EndsAt, Describes}
-
--- An object's own words before its end.
-abbrev pub frontWords : ℕ → Object → List ℕ
-frontWords v (leaf l d) = wordsOf (chosen (pathCase v) (otherCases v) (leafLetter l)) l
-frontWords v (group os d) = wordsOf (field memberCount) (length (listOf os))
-
-pub front-words : (v : ℕ) (o : Object) → ownWords v o ≡ frontWords v o ++ wordsOf (objectEnd v) (descriptionOf o)
-front-words v (leaf l d) = pair-words (chosen (pathCase v) (otherCases v) (leafLetter l)) (objectEnd v) l d
-front-words v (group os d) = pair-words (field memberCount) (objectEnd v) (length (listOf os)) d
 
 module _ (c bs : List ℕ) (v r : ℕ) where
   -- A group's own fields stand where its row says.

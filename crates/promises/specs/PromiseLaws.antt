@@ -14,6 +14,7 @@ use Rattle.drawing.specs.declared.PaintAnswer.{PaintAnswer}
 use Rattle.drawing.specs.declared.PaintAnswer.the-variants as Paint
 use Rattle.drawing.specs.declared.Which.{Which}
 use Rattle.drawing.specs.declared.TextAnswer.{TextAnswer}
+use Rattle.drawing.specs.declared.DescriptionAnswer.{DescriptionAnswer}
 use Rattle.drawing.specs.declared.Extent.{Extent}
 use Rattle.drawing.specs.declared.ExtentAnswer.{ExtentAnswer}
 use Rattle.drawing.specs.Numbers.{notANumber}
@@ -25,7 +26,7 @@ use Rattle.drawing.specs.Object.{Object, leaf, group}
 use Rattle.drawing.specs.Drawing.{Drawing, outer, IsFile}
 use Rattle.drawing.specs.Reading.{Reading, drawing, refusal, drawingOf}
 use Rattle.drawing.specs.Refusal.{Refused}
-use Rattle.drawing.specs.Table.{startIn, IsTable}
+use Rattle.drawing.specs.Table.{startIn, endIn, IsTable}
 use Rattle.drawing.specs.TableDrawing.{drawingOfTable}
 use Rattle.drawing.specs.Sheet.{numberBytes, IsSheet}
 use Rattle.drawing.specs.SheetDrawing.{drawingOfSheet}
@@ -35,7 +36,7 @@ use Rattle.drawing.specs.Questions as Q
 use Rattle.drawing.specs.Questions.{CharsAt}
 use Rattle.drawing.specs.Path.{Outline}
 use Rattle.drawing.specs.Extent as E
-use Rattle.drawing.specs.Computed.{fromTable, readFrom, readResult, checkAnswer, writeOutput, sheetOutput, sheetResult, listOutput, paintAnswer, textValue, textIn, textAnswer, extentValue, extentAnswer}
+use Rattle.drawing.specs.Computed.{fromTable, readFrom, readResult, checkAnswer, writeOutput, sheetOutput, sheetResult, listOutput, paintAnswer, textValue, textIn, textAnswer, descriptionIn, descriptionAnswer, extentValue, extentAnswer}
 use Rattle.laws.specs.DrawingLaws.{drawing-of-bytes, refusal-of-bytes, file-length}
 use Rattle.laws.specs.TableLaws.{drawing-of-table}
 use Rattle.laws.specs.SheetLaws.{drawing-of-sheet}
@@ -45,7 +46,8 @@ use Rattle.laws.specs.OrderLaws.{leads}
 use Rattle.laws.specs.RowBodies.{RowBody}
 use Rattle.laws.specs.RowBodyLaws.{row-object, object-row, object-body}
 use Rattle.laws.specs.TextPlaceLaws.{text-chars, alternative-of}
-use Rattle.promises.specs.Promises.{readTo, Reads, ByDrawing, Decided, by-drawing, OfTable, Demanded, demand3, outputTo, Checks, Writes, WritesSheet, ReadsSheet, Listed, Lists, Paints, Texts, Extents}
+use Rattle.laws.specs.DescriptionLaws.{description-chars}
+use Rattle.promises.specs.Promises.{readTo, Reads, ByDrawing, Decided, by-drawing, OfTable, Demanded, demand3, outputTo, Checks, Writes, WritesSheet, ReadsSheet, Listed, Lists, Paints, Texts, Descriptions, Extents}
 
 -- ---- read
 
@@ -206,6 +208,24 @@ texts {contents} {bodies} {row} {r} below is =
           computed .one d table
           ∙ ap (λ x. textValue (Q.textPlaces (startIn contents row) (d .version) (Q.partAt (Q.textPart (d .version)) x))) object-is in
           subst (Placed contents bodies row (d .version) t) (sym answer-is) (by-object contents bodies row (d .version) t o (object-body contents bodies d table row o object-is) has);
+      says = is;
+    }
+
+pub descriptions : {contents bodies : List ℕ} {row : ℕ} {r : DescriptionAnswer} → Below (2 ^ 32) bodies → r ≡ descriptionAnswer contents bodies row → Descriptions contents bodies row r
+descriptions {contents} {bodies} {row} {r} below is =
+    let computed = told-by-table (descriptionIn contents row) (Q.noDescription 16) below is in
+    record {
+      decides =
+          by-drawing (record {
+            one = λ d t. computed .one d t ∙ ap (λ c. Q.descriptionPlace (d .version) (endIn c row) (Q.partOf Q.descriptionPart row d)) (t .contents-are);
+            none = computed .none;
+            one-or-other = computed .one-or-other;
+          });
+      place = λ d o table object-is.
+          let answer-is : r ≡ Q.descriptionPlace (d .version) (endIn contents row) (Q.part (descriptionOf o)) =
+          computed .one d table
+          ∙ ap (λ x. Q.descriptionPlace (d .version) (endIn contents row) (Q.partAt Q.descriptionPart x)) object-is in
+          subst (λ (a : DescriptionAnswer). CharsAt bodies (a .chars) (descriptionOf o)) (sym answer-is) (description-chars contents bodies (d .version) row o (object-body contents bodies d table row o object-is));
       says = is;
     }
 

@@ -15,6 +15,7 @@ use Rattle.drawing.specs.declared.PaintAnswer.{PaintAnswer}
 use Rattle.drawing.specs.declared.PaintAnswer.the-variants as Paint
 use Rattle.drawing.specs.declared.Which.{Which}
 use Rattle.drawing.specs.declared.TextAnswer.{TextAnswer}
+use Rattle.drawing.specs.declared.DescriptionAnswer.{DescriptionAnswer}
 use Rattle.drawing.specs.declared.ExtentAnswer.{ExtentAnswer}
 use Rattle.drawing.specs.Numbers.{badFlag}
 use Rattle.drawing.specs.String.{String}
@@ -26,9 +27,9 @@ use Rattle.drawing.specs.Table.{IsTable}
 use Rattle.drawing.specs.Sheet.{IsSheet}
 use Rattle.drawing.specs.Order.{objectsOf, descriptionOf, entries, groupsAround, ParentChain}
 use Rattle.drawing.specs.Answers.{ReadResult, fileRead, unread, tableRefused, tableChecked, Output, nothingStored, tableWritten, sheetWritten, sheetRead, sheetRefused, tableListed}
-use Rattle.drawing.specs.Questions.{refusal, partOf, paintPart, paintAsked, paintGiven, paintOf, textAsked, noText, textGiven, leafPart, wording, alternativeOf, CharsAt}
+use Rattle.drawing.specs.Questions.{refusal, partOf, paintPart, paintAsked, paintGiven, paintOf, textAsked, noText, textGiven, leafPart, wording, alternativeOf, descriptionAsked, noDescription, CharsAt}
 use Rattle.drawing.specs.Extent.{extentAsked, noExtent, extentGiven}
-use Rattle.drawing.specs.Computed.{readResult, checkAnswer, writeOutput, sheetOutput, sheetResult, listOutput, paintAnswer, textAnswer, extentAnswer}
+use Rattle.drawing.specs.Computed.{readResult, checkAnswer, writeOutput, sheetOutput, sheetResult, listOutput, paintAnswer, textAnswer, descriptionAnswer, extentAnswer}
 
 -- ---- read
 
@@ -132,6 +133,14 @@ pub record Texts (contents bodies : List ℕ) (row : ℕ) (r : TextAnswer) : Typ
   pub places : (d : Drawing) (o : Object) (t : Text) → IsTable contents bodies d → getElem? (objectsOf d) row ≡ some o → leafPart wording o ≡ some t
       → CharsAt bodies (r .alternative) (alternativeOf (t .style .latex)) × CharsAt bodies (r .text) (t .text)
   pub says : r ≡ textAnswer contents bodies row
+
+-- ---- description
+
+pub record Descriptions (contents bodies : List ℕ) (row : ℕ) (r : DescriptionAnswer) : Type 0 where
+  pub decides : OfTable contents bodies (descriptionAsked row) (noDescription 16) r
+  -- the place lies within the bodies and holds the chars of the object's description
+  pub place : (d : Drawing) (o : Object) → IsTable contents bodies d → getElem? (objectsOf d) row ≡ some o → CharsAt bodies (r .chars) (descriptionOf o)
+  pub says : r ≡ descriptionAnswer contents bodies row
 
 -- ---- extent
 

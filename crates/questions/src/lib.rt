@@ -1,4 +1,5 @@
-// Questions about a row's object, a paint and a text; and which of two texts is to be shown.
+// Questions about a row's object, a paint, a text and its description; and which of two texts is to be shown.
+pub mod description;
 pub mod paint;
 pub mod paint_words;
 pub mod shown;

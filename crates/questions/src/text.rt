@@ -41,7 +41,7 @@ fn refused(number: u32) -> TextAnswer
 }
 
 // The chars of the string that stands here, behind their number.
-fn chars_at(words: &[u32], at: usize) -> Span
+pub fn chars_at(words: &[u32], at: usize) -> Span
     requires { ⌜ (at < length (now words)) × (length (now words) ≤ lengthLimit) ⌝ }
     ensures { λ r. ⌜ CharsRead (now (words .entry)) at r ⌝ }
 {

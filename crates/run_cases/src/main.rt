@@ -7,6 +7,7 @@ use text_out::put;
 use text_out::put_all;
 
 mod data;
+mod description;
 mod extent;
 mod group;
 mod hash;
@@ -116,6 +117,9 @@ fn put_table_call(
     }
     if same(call, b"box") {
         return extent::put_groups(buffer, used, contents, bodies, rest);
+    }
+    if same(call, b"description") {
+        return description::put_groups(buffer, used, contents, bodies, rest);
     }
     put_all(buffer, used, b" is a case of no call")
 }

@@ -2,6 +2,7 @@
 pub mod Judging
 pub mod JudgingLaws
 pub mod Copying
+pub mod CopyingLaws
 pub mod ReadingLaws
 pub mod Packing
 pub mod PackingLaws

@@ -1,6 +1,7 @@
 // Reading a sheet into a table: it is judged where it lies, and copied where there is room.
 use crate::judge::bytes_before;
 use crate::judge::judge;
+use crate::words::copy_words;
 use drawing::Answer;
 use drawing::numbers::ACCEPTED;
 use drawing::numbers::BODIES_TOO_SHORT;
@@ -8,7 +9,6 @@ use drawing::numbers::CONTENTS_TOO_SHORT;
 use drawing::numbers::NO_SHEET;
 use drawing::row::ROW_WIDTH;
 use drawing::sheet::NUMBER_BYTES;
-use drawing::sheet::WORD_BYTES;
 use memory::store::store_fields;
 ghost use mathlib.Core.Path.{_≡_};
 ghost use Prim.Native.Nat.{_*_, _^_, _<_, _≤_};
@@ -40,7 +40,7 @@ fn copy(sheet: &[u8], contents: &mut [u32], bodies: &mut [u32], rows: usize, wor
     let first = 2 * NUMBER_BYTES;
     let before = bytes_before(rows);
     store_fields(&*sheet, first, contents, 0, NUMBER_BYTES, ROW_WIDTH * rows);
-    store_fields(&*sheet, before, bodies, 0, WORD_BYTES, words);
+    copy_words(&*sheet, before, bodies, 0, words);
 }
 
 // A sheet with these counts.

@@ -142,6 +142,13 @@ const CALLS: [Use; 10] = [
             plan.table.rows() - 1,
         ));
     }),
+    ("jdr_description", |plan| {
+        black_box(library::description(
+            given(&plan.table.contents),
+            given(&plan.table.bodies),
+            plan.table.rows() - 1,
+        ));
+    }),
     ("jdr_sheet_write", |plan| {
         let mut sheet = vec![0; plan.sheet.len()];
         black_box(library::sheet_write(

@@ -8,7 +8,7 @@ use second::generate::sheets::sheet as sheet_of;
 use second::model::{Chars, Drawing};
 use second::session::{LentSession, Session};
 use second::table::{self, Table};
-use second::{check, direct, extent, list, sheet, write};
+use second::{ask, check, direct, extent, list, sheet, write};
 use std::hint::black_box;
 
 #[derive(Clone, Copy)]
@@ -17,6 +17,8 @@ pub enum Call {
     Check,
     /// Of the path that a plan of `plans::OUTLINE` has.
     Box,
+    /// Of the last row.
+    Description,
     Write,
     /// With a label that some rows have.
     List,
@@ -31,7 +33,7 @@ pub enum Call {
 }
 
 impl Call {
-    const ALL: [Call; 13] = [
+    const ALL: [Call; 14] = [
         Call::Read,
         Call::ReadNoRoom,
         Call::Session(1),
@@ -41,6 +43,7 @@ impl Call {
         Call::SheetRead,
         Call::Check,
         Call::Box,
+        Call::Description,
         Call::Write,
         Call::SheetWrite,
         Call::List,
@@ -51,6 +54,7 @@ impl Call {
     pub fn linked() -> impl Iterator<Item = Call> {
         Call::ALL.into_iter().filter(|call| match call {
             Call::Box => cfg!(feature = "box"),
+            Call::Description => cfg!(feature = "description"),
             Call::Read | Call::Check | Call::Write => true,
             Call::List | Call::ListEmpty => cfg!(feature = "list"),
             Call::SheetRead => cfg!(feature = "sheet_read"),
@@ -64,6 +68,7 @@ impl Call {
             Call::Read => "read",
             Call::Check => "check",
             Call::Box => "box",
+            Call::Description => "description",
             Call::Write => "write",
             Call::List => "list",
             Call::ListEmpty => "list-empty",
@@ -77,10 +82,10 @@ impl Call {
         }
     }
 
-    /// Whether it is measured on these plans: those for the box have nothing else to show than what it costs beside a check.
+    /// Whether it is measured on these plans: those for the box have little else to show than what it costs beside a check.
     pub fn is_measured(self, plans: &str) -> bool {
         match self {
-            Call::Check => true,
+            Call::Check | Call::Description => true,
             Call::Box => plans == OUTLINE,
             _ => plans != OUTLINE,
         }
@@ -186,6 +191,18 @@ impl Plan {
             }
             Who::Direct => direct::extent(contents, bodies, 1),
             Who::Plain => extent::call(check::good(contents, bodies).as_ref(), 1),
+        };
+        Answer::refused(black_box(answer).number, 0)
+    }
+
+    fn description(&mut self, who: Who) -> Answer {
+        let (contents, bodies) = (&self.table.contents, &self.table.bodies);
+        let row = self.table.rows() - 1;
+        let answer = match who {
+            Who::Library => library::description(given(contents), given(bodies), row)
+                .expect("only measured where it is linked"),
+            Who::Direct => direct::description(contents, bodies, row),
+            Who::Plain => ask::description(check::good(contents, bodies).as_ref(), row),
         };
         Answer::refused(black_box(answer).number, 0)
     }
@@ -296,6 +313,7 @@ impl Work {
                 Call::Read => plan.read(who),
                 Call::Check => plan.check(who),
                 Call::Box => plan.extent(who),
+                Call::Description => plan.description(who),
                 Call::Write => plan.write(who),
                 Call::List => plan.list(who, false),
                 Call::ListEmpty => plan.list(who, true),

@@ -205,4 +205,15 @@ impl Comparer {
         let data = || table_data(&asked.table, []);
         self.report.compared(Call::Text, &ours.words(), &theirs.words(), memory, detail, data);
     }
+
+    pub fn description(&mut self, asked: &mut Asked, row: u32) {
+        let ours = ask::description(asked.good.as_ref(), row);
+        let Some(theirs) = library::description(asked.contents.given(), asked.bodies.given(), row) else {
+            return;
+        };
+        let memory = asked.changed();
+        let detail = || format!("row {row}");
+        let data = || table_data(&asked.table, [row]);
+        self.report.compared(Call::Description, &ours.words(), &theirs.words(), memory, detail, data);
+    }
 }

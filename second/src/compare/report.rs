@@ -13,6 +13,7 @@ pub enum Call {
     Box,
     Paint,
     Text,
+    Description,
     SheetWrite,
     SheetRead,
     SessionOpen,
@@ -21,7 +22,7 @@ pub enum Call {
 }
 
 impl Call {
-    const ALL: [Call; 12] = [
+    const ALL: [Call; 13] = [
         Call::Read,
         Call::Check,
         Call::Write,
@@ -29,6 +30,7 @@ impl Call {
         Call::Box,
         Call::Paint,
         Call::Text,
+        Call::Description,
         Call::SheetWrite,
         Call::SheetRead,
         Call::SessionOpen,
@@ -45,6 +47,7 @@ impl Call {
             Call::Box => "box",
             Call::Paint => "paint",
             Call::Text => "text",
+            Call::Description => "description",
             Call::SheetWrite => "sheet_write",
             Call::SheetRead => "sheet_read",
             Call::SessionOpen => "session_open",

@@ -285,6 +285,7 @@ fn questions(comparer: &mut Comparer, asked: &mut Asked, row: u32) {
         comparer.paint(asked, row, which);
     }
     comparer.text(asked, row);
+    comparer.description(asked, row);
 }
 
 /// Damaged tables; now and then some other call than the check as well.
@@ -295,7 +296,7 @@ fn ask_damaged(comparer: &mut Comparer, round: &Round) {
         let mut asked = Asked::new(&mut comparer.random, damaged);
         comparer.check(&mut asked);
         let room = comparer.random.within(0, round.file.len() + 40);
-        match comparer.random.below(6) {
+        match comparer.random.below(7) {
             0 => {
                 comparer.write(&mut asked, round.file.len() + 40);
             }
@@ -314,6 +315,10 @@ fn ask_damaged(comparer: &mut Comparer, round: &Round) {
             4 => {
                 let row = some_row(&mut comparer.random, rows);
                 comparer.text(&mut asked, row);
+            }
+            5 => {
+                let row = some_row(&mut comparer.random, rows);
+                comparer.description(&mut asked, row);
             }
             _ => {}
         }

@@ -1,8 +1,10 @@
-//! Reading, checking, writing, listing, the box question, storing and sessions as a program does it that cares for time: from bytes to words and
-//! back, without the drawing in between and without memory of its own, but for a session's. A first walk judges and counts before anything is stored, so a
-//! refusal stores nothing. The plain modules say what is right; this one is measured beside the library, and `tests/direct.rs`,
-//! `tests/direct_boxes.rs`, `tests/direct_sheets.rs` and `tests/direct_sessions.rs` hold it to the plain answers.
+//! Reading, checking, writing, listing, the questions about a box and a description, storing and sessions as a program does it that cares
+//! for time: from bytes to words and back, without the drawing in between and without memory of its own, but for a session's. A first walk
+//! judges and counts before anything is stored, so a refusal stores nothing. The plain modules say what is right; this one is measured
+//! beside the library, and `tests/direct.rs`, `direct_boxes.rs`, `direct_descriptions.rs`, `direct_sheets.rs` and `direct_sessions.rs` hold
+//! it to the plain answers.
 
+mod description;
 mod extent;
 mod from_file;
 mod from_table;
@@ -15,6 +17,7 @@ mod walk;
 use crate::answer::Answer;
 use crate::table::ROW;
 use crate::version::LONGEST_FILE;
+pub use description::description;
 pub use extent::extent;
 use from_file::FromFile;
 use from_table::FromTable;

@@ -101,7 +101,7 @@ fn labels(all: &mut All, seed: u64) {
 }
 
 /// The objects take all labels in turn, and then the first ones again and again.
-fn describe_all(objects: &mut [Object], opened: &mut usize) {
+pub fn describe_all(objects: &mut [Object], opened: &mut usize) {
     let labels = all_labels();
     for object in objects {
         let label = if *opened < labels.len() { *opened } else { *opened % 5 };

@@ -2,6 +2,7 @@
 
 pub mod boxes;
 mod broken;
+pub mod descriptions;
 pub mod lists;
 pub mod reads;
 pub mod sessions;
@@ -23,6 +24,7 @@ pub const CALLS: [(&str, Make); 7] = [
     ("table", tables::cases),
     ("list", lists::cases),
     ("box", boxes::cases),
+    ("description", descriptions::cases),
     ("sheet_write", sheets::write_cases),
     ("sheet_read", sheets::read_cases),
     ("session", sessions::cases),

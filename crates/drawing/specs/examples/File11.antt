@@ -1,6 +1,6 @@
 -- A file of version 1.1 in full: no settings; chains of markers, at the start, in the middle and at the end of a path; a text with an
 -- alternative; no descriptions.
-use mathlib.Core.Path.{refl}
+use mathlib.Core.Path.{_≡_, refl}
 use mathlib.Core.Option.{Option, none, some}
 use Prim.Native.Nat.{ℕ}
 use Prim.Native.Char.{code}
@@ -15,6 +15,7 @@ use Rattle.drawing.specs.Bitmap.{Bitmap}
 use Rattle.drawing.specs.Settings.{absent}
 use Rattle.drawing.specs.Object.{path, text, bitmap, leaf, group, ofList}
 use Rattle.drawing.specs.Drawing.{Drawing}
+use Rattle.drawing.specs.Computed.{descriptionAnswer}
 use Rattle.drawing.specs.examples.Whole.{Whole, Respelled}
 use Rattle.drawing.specs.examples.Bytes.{Item, byte, flag, int, float, double, char, string, codes, bytes, words, floats, doubles, head, at, otherwise}
 
@@ -227,3 +228,12 @@ whole = record { reads = refl; writes = refl; rows = refl; words = refl; back = 
 respelled : Respelled (bytes (map otherwise items)) file tree contents (words (map otherwise bodyItems))
 unfolding fromZeroTo le ofInt ofBits
 respelled = record { reads = refl; made = refl; strict = refl }
+
+-- No body has the words of a description.
+descriptions : map (λ row. descriptionAnswer contents bodies row) (0 ∷ 6 ∷ 7 ∷ [])
+    ≡ record { number = 0; chars = record { start = 0; length = 0 } }
+    ∷ record { number = 0; chars = record { start = 0; length = 0 } }
+    ∷ record { number = 6; chars = record { start = 0; length = 0 } }
+    ∷ []
+unfolding fromZeroTo le ofInt ofBits
+descriptions = refl

@@ -23,7 +23,7 @@ use Rattle.drawing.specs.Object.{path, text, bitmap, leaf, group, ofList
 use Rattle.drawing.specs.Drawing.{Drawing}
 use Rattle.drawing.specs.Order.{entries, groupsAround}
 use Rattle.drawing.specs.Answers.{answer}
-use Rattle.drawing.specs.Computed.{readResult, checkAnswer, listOutput, paintAnswer, textAnswer}
+use Rattle.drawing.specs.Computed.{readResult, checkAnswer, listOutput, paintAnswer, textAnswer, descriptionAnswer}
 use Rattle.drawing.specs.examples.Whole.{Whole, Respelled}
 use Rattle.drawing.specs.examples.Bytes.{Item, byte, flag, int, float, double, char, string, coded, codes, bytes, words, floats, doubles, head, at, otherwise}
 
@@ -256,3 +256,14 @@ texts : map (λ row. textAnswer contents bodies row) (5 ∷ 7 ∷ 6 ∷ 9 ∷ []
     ∷ []
 unfolding fromZeroTo le ofInt ofBits
 texts = refl
+
+-- The places of the chars of descriptions: of top, of two chars, of xy, of none behind its length; and of a row that is not there.
+descriptions : map (λ row. descriptionAnswer contents bodies row) (0 ∷ 2 ∷ 6 ∷ 7 ∷ 9 ∷ [])
+    ≡ record { number = 0; chars = record { start = 214; length = 3 } }
+    ∷ record { number = 0; chars = record { start = 187; length = 2 } }
+    ∷ record { number = 0; chars = record { start = 141; length = 2 } }
+    ∷ record { number = 0; chars = record { start = 184; length = 0 } }
+    ∷ record { number = 6; chars = record { start = 0; length = 0 } }
+    ∷ []
+unfolding fromZeroTo le ofInt ofBits
+descriptions = refl

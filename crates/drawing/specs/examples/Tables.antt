@@ -7,7 +7,7 @@ use lib.ListN.{replicate, set, take}
 use Rattle.drawing.specs.declared.PaintAnswer.the-variants.{Refused}
 use Rattle.drawing.specs.declared.Which.the-variants.{Line}
 use Rattle.drawing.specs.Answers.{answer}
-use Rattle.drawing.specs.Computed.{readResult, checkAnswer, writeOutput, listOutput, paintAnswer, textAnswer}
+use Rattle.drawing.specs.Computed.{readResult, checkAnswer, writeOutput, listOutput, paintAnswer, textAnswer, descriptionAnswer}
 use Rattle.drawing.specs.examples.Bytes.{Item, flag, int, char, string, codes, bytes, words, doubles, head}
 
 -- name, flag, transformation, flow flag
@@ -92,7 +92,8 @@ others : (writeOutput [] bodies (1 ∷ []) ≡ record { answer = answer 16 0 0 0
     × (listOutput [] bodies [] [] ≡ record { answer = answer 16 0 0 0; buffer = [] })
     × (paintAnswer [] bodies 9 Line ≡ Refused 16)
     × (textAnswer [] bodies 9 ≡ record { number = 16; alternative = record { start = 0; length = 0 }; text = record { start = 0; length = 0 } })
-others = (refl, refl, refl, refl)
+    × (descriptionAnswer [] bodies 9 ≡ record { number = 16; chars = record { start = 0; length = 0 } })
+others = (refl, refl, refl, refl, refl)
 
 -- A file of 1.1 has the same words for these fields.
 good : (checkAnswer contents bodies ≡ answer 0 140 3 36) × (checkAnswer contents (set bodies 0 1) ≡ answer 0 140 3 36)

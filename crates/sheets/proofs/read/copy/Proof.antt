@@ -22,11 +22,11 @@ store-fields-requires c κs =
     let at-pre = c .before .before .before .before .before in
     (refl, contents-room (at-pre .pre .0) (length (at-pre .args .contents .now)) (at-pre .pre .1 .0))
 
-store-fields-requires-2 : tie.Need-store-fields-requires-2
-store-fields-requires-2 c κs =
+copy-words-requires : tie.Need-copy-words-requires
+copy-words-requires c κs =
     let at-bytes-before = c .before .before .before .before .before in
     let at-pre = at-bytes-before .before .before .before .before in
-    (refl, bodies-room (at-pre .pre .0) (length (at-pre .args .bodies .now)) (at-pre .pre .1 .1) (at-bytes-before .bytes-before .ensures))
+    bodies-room (at-pre .pre .0) (length (at-pre .args .bodies .now)) (at-pre .pre .1 .1) (at-bytes-before .bytes-before .ensures)
 
 same-length : tie.Need-same-length
 same-length c = search needs
@@ -36,11 +36,11 @@ same-length-2 c = search needs
 
 returns : tie.Need-returns
 returns c =
-    let at-store-fields2 = c .before .before in
-    let at-store-fields = at-store-fields2 .before .before .before .before in
+    let at-copy-words = c .before .before in
+    let at-store-fields = at-copy-words .before .before .before .before in
     let at-bytes-before = at-store-fields .before .before in
     let at-args = at-bytes-before .before .before .before .before in
-    record { contents-are = at-store-fields .store-fields .ensures; bodies-are = at-store-fields2 .store-fields2 .ensures ∙ ap (λ b. splice 0 (recoded 256 4 (2 ^ 32) 1 (at-args .args .words) (drop b (at-args .args .sheet .now))) (at-args .args .bodies .now)) (at-bytes-before .bytes-before .ensures) }
+    record { contents-are = at-store-fields .store-fields .ensures; bodies-are = at-copy-words .copy-words .ensures ∙ ap (λ b. splice 0 (recoded 256 4 (2 ^ 32) 1 (at-args .args .words) (drop b (at-args .args .sheet .now))) (at-args .args .bodies .now)) (at-bytes-before .bytes-before .ensures) }
 
 pub copy-spec : {M : Type 1} → statement M
 copy-spec =
@@ -50,7 +50,7 @@ copy-spec =
     bytes-before-requires
     mul-store-fields
     store-fields-requires
-    store-fields-requires-2
+    copy-words-requires
     same-length
     same-length-2
     returns)
