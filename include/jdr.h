@@ -283,7 +283,7 @@ struct jdr_answer jdr_session_open(struct jdr_session *session);
 /* Gives a session the next bytes of the file, however many, none too. They are not needed afterwards. A fault in them is told by the verdict
  * and not here. After a verdict a piece changes nothing.
  * Answers JDR_ACCEPTED; or JDR_NO_SESSION, exactly if depth is over JDR_DEEPEST_GROUP or bytes is over JDR_LONGEST_FILE + 1. A session that
- * was opened never comes to that.
+ * was opened never comes to that. Of a struct that was not, nothing else is promised but that the calls come to an end.
  *
  *     while ((piece_len = receive(piece, sizeof piece)) != 0)
  *         jdr_session_piece(&session, piece, piece_len);
