@@ -1,51 +1,15 @@
 //! Tells whether a plan that comes over a pipe is good, piece by piece and without storing it: pipe [BYTES] <PLAN, with the most bytes that
-//! are read at a time. Link libjdr_c.a, which tools/library makes.
+//! are read at a time.
 
+use jdr::{Refused, Session, Verdict};
 use std::io::Read;
 use std::process::ExitCode;
 
 const MOST: usize = 4096;
 
-/// What a call answers: a number (include/jdr.h lists them), the offset, and the counts of rows and of words in the bodies.
-#[repr(C)]
-struct Answer {
-    number: u32,
-    offset: u32,
-    rows: u32,
-    words: u32,
-}
-
-/// A checking session, `struct jdr_session`: so many bytes, aligned for 64 bits. What they hold is the library's.
-#[repr(C)]
-struct Session([u64; 41]);
-
-#[link(name = "jdr_c", kind = "static")]
-extern "C" {
-    fn jdr_session_open(session: &mut Session) -> Answer;
-    fn jdr_session_piece(session: &mut Session, bytes: *const u8, bytes_len: usize) -> Answer;
-    fn jdr_session_verdict(session: &mut Session) -> Answer;
-}
-
-impl Session {
-    fn open() -> Session {
-        let mut session = Session([0; 41]);
-        // Safety, here and below: the session is lent for the call alone, and so is the piece, with its length.
-        unsafe { jdr_session_open(&mut session) };
-        session
-    }
-
-    fn piece(&mut self, bytes: &[u8]) {
-        unsafe { jdr_session_piece(self, bytes.as_ptr(), bytes.len()) };
-    }
-
-    fn verdict(&mut self) -> Answer {
-        unsafe { jdr_session_verdict(self) }
-    }
-}
-
 /// The verdict on all that comes, or why it cannot be had.
-fn judge(most: usize) -> std::io::Result<Answer> {
-    let mut session = Session::open();
+fn judge(most: usize) -> std::io::Result<Result<Verdict, Refused>> {
+    let mut session = Session::new();
     let mut room = [0; MOST];
     let mut input = std::io::stdin().lock();
     loop {
@@ -53,7 +17,7 @@ fn judge(most: usize) -> std::io::Result<Answer> {
         if length == 0 {
             return Ok(session.verdict());
         }
-        session.piece(&room[..length]);
+        session.feed(&room[..length]);
     }
 }
 
@@ -72,9 +36,15 @@ fn main() -> ExitCode {
     if !(1..=MOST).contains(&most) {
         return fail("usage: pipe [BYTES] <PLAN, with 1 to 4096 bytes");
     }
-    let Ok(verdict) = judge(most) else {
-        return fail("the plan cannot be read");
-    };
-    println!("verdict: {} {} {} {}", verdict.number, verdict.offset, verdict.rows, verdict.words);
-    ExitCode::from(u8::from(verdict.number != 0))
+    match judge(most) {
+        Ok(Ok(Verdict { length, rows, words })) => {
+            println!("verdict: 0 {length} {rows} {words}");
+            ExitCode::SUCCESS
+        }
+        Ok(Err(refused)) => {
+            println!("verdict: {} {} 0 0", refused.number(), refused.offset);
+            ExitCode::FAILURE
+        }
+        Err(_) => fail("the plan cannot be read"),
+    }
 }

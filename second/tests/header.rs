@@ -1,6 +1,6 @@
-//! The structs of include/jdr.h have the sizes and places that this program, and the examples in Rust and Python, give them.
+//! The structs of include/jdr.h have the sizes and places that this program gives them.
 
-use second::answer::{Answer, BoxAnswer, PaintAnswer, TextAnswer};
+use second::answer::{Answer, BoxAnswer, DescriptionAnswer, PaintAnswer, TextAnswer};
 use second::session::LentSession;
 use std::io::Write;
 use std::process::{Command, Stdio};
@@ -47,6 +47,7 @@ fn structs_have_their_sizes() {
         size("jdr_answer", size_of::<Answer>()),
         size("jdr_paint", size_of::<PaintAnswer>()),
         size("jdr_text", size_of::<TextAnswer>()),
+        size("jdr_description", size_of::<DescriptionAnswer>()),
         size("jdr_box", size_of::<BoxAnswer>()),
         size("jdr_session", size_of::<LentSession>()),
         place("depth", 4 * LentSession::DEPTH),

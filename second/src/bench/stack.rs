@@ -89,7 +89,7 @@ fn deepest(version: Version) -> Vec<Plan> {
 type Use = (&'static str, fn(&Plan));
 
 /// Each call, and the ways to make it that matter.
-const CALLS: [Use; 10] = [
+const CALLS: [Use; 11] = [
     ("jdr_read", |plan| {
         let (mut contents, mut bodies) =
             (vec![0; plan.table.contents.len()], vec![0; plan.table.bodies.len()]);

@@ -19,7 +19,7 @@ use std::path::Path;
 type Make = fn(u64) -> Vec<Case>;
 
 /// Each call by the name that its cases have, in the order in which they are run.
-pub const CALLS: [(&str, Make); 7] = [
+pub const CALLS: [(&str, Make); 8] = [
     ("read", reads::cases),
     ("table", tables::cases),
     ("list", lists::cases),
