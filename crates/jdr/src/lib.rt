@@ -1,5 +1,6 @@
 // The calls of the library, for other programs: each with its contract, which decides its answer and all lent memory for every input. What each
-// promises stands in crates/promises/specs/Promises.antt, from top to bottom. The numbers of answers are 01's.
+// promises stands in crates/promises/specs/Promises.antt, from top to bottom, and for those on a session in crates/pieces/specs/SessionPromises.antt. The numbers
+// of answers are 01's.
 ghost use Rattle.promises.specs.Promises.{Reads, Checks, Writes, WritesSheet, ReadsSheet, Lists, Paints, Texts, Descriptions, Extents};
 ghost use mathlib.Core.Path.{_≡_};
 ghost use lib.ListN.{length};
@@ -113,8 +114,8 @@ pub fn open(session: &mut Session) -> Answer
     t.answer
 }
 
-// Gives a session the next bytes of a plan, any number of them. Number 0; or 22 for what no session holds, which then stays as it is. After a verdict nothing
-// changes.
+// Gives a session the next bytes of a plan, any number of them. Number 0; or 22, with the session as it was, where its depth is over 16 or its bytes over 65,536.
+// After a verdict nothing changes.
 pub fn piece(session: &mut Session, bytes: &[u8]) -> Answer
     ensures { λ r. ⌜ Pieces (now (session .entry)) (now (bytes .entry)) (now (session .exit)) r ⌝ }
 {

@@ -2,10 +2,12 @@
 --
 -- `Stands bs s` relates a session to the bytes given since it was opened. Only this has to be believed of it: opening begins it with no bytes, a piece adds its
 -- bytes, and the verdict is then the reader's on these bytes. `verdict-of-pieces` in SessionLaws puts them together, for any list of pieces.
+--
+-- R-6 leaves free what else the fields hold, and what a piece makes of a session that is fit and that opening did not begin.
 use mathlib.Core.Path.{_≡_}
 use mathlib.Core.Logic.{_⊎_}
 use mathlib.Core.Bool.{Bool, true, false, cond, _||_}
-use Prim.Native.Nat.{ℕ, suc, _/_, _≤_}
+use Prim.Native.Nat.{ℕ, suc, _/_, _≤_, min}
 use mathlib.Core.List.{List, [], _∷_, _++_}
 use lib.Dec.{ltb}
 use lib.ListN.{length}
@@ -58,6 +60,7 @@ spend s =
 pub record Opens (s′ : Session) (r : Answer) : Type 0 where
   pub says : r ≡ answer accepted 0 0 0
   pub fresh : s′ .spent ≡ 0
+  pub empty : (s′ .depth ≡ 0) × (s′ .bytes ≡ 0)
   pub stands : Stands [] s′
 
 -- ---- piece
@@ -69,6 +72,8 @@ pub record Pieces (s : Session) (piece : List ℕ) (s′ : Session) (r : Answer)
   pub spent-same : (s .spent ≡ 0 → ⊥) → s′ ≡ s
   pub fresh : s .spent ≡ 0 → s′ .spent ≡ 0
   pub stands : s .spent ≡ 0 → (bs : List ℕ) → Stands bs s → Stands (bs ++ piece) s′
+  -- its count of bytes is that of all that were given, up to one more than the limit
+  pub counts : s .spent ≡ 0 → (bs : List ℕ) → Stands bs s → s′ .bytes ≡ min (length (bs ++ piece)) (suc lengthLimit)
 
 -- ---- verdict
 

@@ -20,7 +20,7 @@ use Rattle.pieces.specs.Going.{room}
 use Rattle.pieces.specs.Parts.{headOn, rest}
 use Rattle.pieces.specs.Verdict.{verdictOf}
 use Rattle.pieces.specs.Session.{standing, heldBytes, verdictNow, Going, Faulty, Within, Stands}
-use Rattle.pieces.specs.SessionLaws.{stands-fit}
+use Rattle.pieces.specs.SessionLaws.{stands-fit, stands-counts}
 use Rattle.pieces.specs.SessionPromises.{noSession, unfit, Pieces}
 use Rattle.session.specs.Changes.{withBytes}
 use Rattle.session.specs.Feeding.{Able, Behind, Feeds, Tells}
@@ -198,6 +198,7 @@ module _ {s : Session} {piece : List ℕ} {r : Answer} where
         spent-same = λ e. same;
         fresh = λ e. ap (λ (t : Session). t .spent) same ∙ e;
         stands = λ e bs h. absurd (false≢true (sym (stands-fit h) ∙ bad));
+        counts = λ e bs h. absurd (false≢true (sym (stands-fit h) ∙ bad));
       }
 
   pub pieces-spent : unfit s ≡ false → (s .spent ≡ 0 → ⊥) → r ≡ answer 0 0 0 0 → Pieces s piece s r
@@ -208,6 +209,7 @@ module _ {s : Session} {piece : List ℕ} {r : Answer} where
         spent-same = λ e. refl;
         fresh = λ e. e;
         stands = λ e. absurd (spent e);
+        counts = λ e. absurd (spent e);
       }
 
   pub pieces-given : unfit s ≡ false → s .spent ≡ 0 → Below 256 piece → {s′ : Session} → Gives s piece s′ → r ≡ answer 0 0 0 0 → Pieces s piece s′ r
@@ -218,4 +220,5 @@ module _ {s : Session} {piece : List ℕ} {r : Answer} where
         spent-same = λ e. absurd (e fresh);
         fresh = λ e. gives .same-spent ∙ e;
         stands = λ e bs h. gives .stands below bs h;
+        counts = λ e bs h. stands-counts (gives .stands below bs h);
       }
