@@ -79,18 +79,18 @@ stands-fit {bs} {s} h =
         omega arith
 
 -- Opened and given any pieces, it is fit: so 22 is never met, and every piece answers 0.
-pub opened-fit : {s₁ s₂ : Session} {r₁ : Answer} (ps : List (List ℕ)) → Opens s₁ r₁ → Given s₁ ps s₂ → unfit s₂ ≡ false
-opened-fit {s₁} {s₂} ps o g = stands-fit (given-stands s₁ s₂ ps [] g (o .fresh) (o .stands))
+pub opened-fit : {s₁ : Session} {r₁ : Answer} (s₂ : Session) (ps : List (List ℕ)) → Opens s₁ r₁ → Given s₁ ps s₂ → unfit s₂ ≡ false
+opened-fit {s₁} s₂ ps o g = stands-fit (given-stands s₁ s₂ ps [] g (o .fresh) (o .stands))
 
 pub piece-answers : {s₁ s₂ s₃ : Session} {r₁ r : Answer} {p : List ℕ} (ps : List (List ℕ)) → Opens s₁ r₁ → Given s₁ ps s₂ → Pieces s₂ p s₃ r → r ≡ answer 0 0 0 0
-piece-answers ps o g call = call .says ∙ ap (λ t. answer (cond t noSession 0) 0 0 0) (opened-fit ps o g)
+piece-answers {s₂ = s₂} ps o g call = call .says ∙ ap (λ t. answer (cond t noSession 0) 0 0 0) (opened-fit s₂ ps o g)
 
 -- So does one behind a verdict, and the verdict stays, whatever pieces are given.
 pub spent-answers : {s s₁ s₂ : Session} {r r′ : Answer} {p : List ℕ} → unfit s ≡ false → Verdicts s s₁ r → Pieces s₁ p s₂ r′ → r′ ≡ answer 0 0 0 0
 spent-answers {s} fit v call = call .says ∙ ap (λ (t : Session). answer (cond (unfit t) noSession 0) 0 0 0) (v .given fit .1) ∙ ap (λ t. answer (cond t noSession 0) 0 0 0) fit
 
 pub verdict-stays : {s₁ s₂ s₃ s₄ s₅ : Session} {r₁ r r′ : Answer} (ps more : List (List ℕ)) → Opens s₁ r₁ → Given s₁ ps s₂ → Verdicts s₂ s₃ r → Given s₃ more s₄ → Verdicts s₄ s₅ r′ → r′ ≡ r
-verdict-stays ps more o g v g′ v′ = verdict-repeated more (opened-fit ps o g) v g′ v′
+verdict-stays {s₂ = s₂} ps more o g v g′ v′ = verdict-repeated more (opened-fit s₂ ps o g) v g′ v′
 
 -- Its count of bytes.
 pub stands-counts : {bs : List ℕ} {s : Session} → Stands bs s → s .bytes ≡ min (length bs) (suc lengthLimit)
