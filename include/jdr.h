@@ -14,7 +14,7 @@
  *         use(rows[i]);
  *
  * Numbers. Every call answers a number. JDR_ACCEPTED (0) means done. Any other number is a refusal, and then the call has changed nothing; only
- * a session is spent by its verdict, whatever the verdict is. jdr_message and jdr_row_message put a number into words.
+ * a session is spent by its verdict, a refusal too, but not by JDR_NO_SESSION. jdr_message and jdr_row_message put a number into words.
  *
  * Memory. The caller lends all memory; no call allocates or keeps any. A run is a pointer and a length in elements, not in bytes. A run of
  * length 0 may have any pointer, NULL too. Any other pointer must be aligned and good for its length. A run that a call writes to must not
@@ -166,8 +166,8 @@ struct jdr_box {
 };
 
 /* A session: what is known so far of a file that comes in pieces. The caller owns it, and may copy it; the copy goes on by itself. Before
- * jdr_session_open it may hold anything. The fields are the library's own, but two of them mean something to callers: depth is how many groups
- * are open, and bytes is how many bytes were given, counted up to JDR_LONGEST_FILE + 1. */
+ * jdr_session_open it may hold anything. The fields are the library's own. JDR_NO_SESSION is judged by two of them: depth, the groups whose members
+ * are being checked, and bytes, the bytes given before a verdict, counted up to JDR_LONGEST_FILE + 1. */
 struct jdr_session {
     uint32_t spent, depth, bytes, number, offset, rows, words, version, stage, width, segments, held;
     uint64_t parts, run, x, y;
@@ -272,7 +272,7 @@ struct jdr_description jdr_description(const uint32_t *contents, size_t contents
 struct jdr_box jdr_box(const uint32_t *contents, size_t contents_len, const uint32_t *bodies, size_t bodies_len, uint32_t row);
 
 /* Begins a session: a check of a file that comes in pieces and is stored nowhere. What the session holds does not matter; a used one begins
- * anew. The pointer of these three calls is never NULL.
+ * anew. The pointer to the session must not be NULL in these three calls, and a piece must not lie in the session.
  * Answers JDR_ACCEPTED.
  *
  *     struct jdr_session session;
@@ -282,8 +282,9 @@ struct jdr_answer jdr_session_open(struct jdr_session *session);
 
 /* Gives a session the next bytes of the file, however many, none too. They are not needed afterwards. A fault in them is told by the verdict
  * and not here. After a verdict a piece changes nothing.
- * Answers JDR_ACCEPTED; or JDR_NO_SESSION, exactly if depth is over JDR_DEEPEST_GROUP or bytes is over JDR_LONGEST_FILE + 1. A session that
- * was opened never comes to that. Of a struct that was not, nothing else is promised but that the calls come to an end.
+ * Answers JDR_ACCEPTED; or JDR_NO_SESSION, and leaves the session as it is, exactly if its depth is over JDR_DEEPEST_GROUP or its bytes are over
+ * JDR_LONGEST_FILE + 1. A session that was opened never comes to that. Of any other struct only this is promised: a piece answers JDR_ACCEPTED, a
+ * verdict some number up to JDR_TRAILING_BYTES, and the calls come to an end.
  *
  *     while ((piece_len = receive(piece, sizeof piece)) != 0)
  *         jdr_session_piece(&session, piece, piece_len);

@@ -75,4 +75,4 @@ class Session:
     __copy__ = copy
 
     def __repr__(self) -> str:
-        return f"<Session that was given {self._session.bytes} bytes>"
+        return f"<Session that counts {self._session.bytes} bytes>"
