@@ -191,7 +191,7 @@ class Spent(unittest.TestCase):
             self.assertEqual((caught.exception.number, caught.exception.message), (numbers.NO_SESSION, numbers.MESSAGES[numbers.NO_SESSION]))
         session.open()
         self.assertEqual(judged(session), read(b""))
-        self.assertEqual(repr(fed([HALL])), "<Session that was given 522 bytes>")
+        self.assertEqual(repr(fed([HALL])), "<Session that counts 522 bytes>")
 
     def test_threads_take_turns(self):
         session = Session()
