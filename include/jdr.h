@@ -13,8 +13,8 @@
  *     for (uint32_t i = 0; i < found.rows; i++)
  *         use(rows[i]);
  *
- * Numbers. Every call answers a number. JDR_ACCEPTED (0) means done. Any other number is a refusal, and then the call has changed nothing.
- * jdr_message and jdr_row_message put a number into words.
+ * Numbers. Every call answers a number. JDR_ACCEPTED (0) means done. Any other number is a refusal, and then the call has changed nothing; only
+ * a session is spent by its verdict, a refusal too, but not by JDR_NO_SESSION. jdr_message and jdr_row_message put a number into words.
  *
  * Memory. The caller lends all memory; no call allocates or keeps any. A run is a pointer and a length in elements, not in bytes. A run of
  * length 0 may have any pointer, NULL too. Any other pointer must be aligned and good for its length. A run that a call writes to must not
@@ -30,6 +30,9 @@
  *
  * Chars are UTF-16 code units, one to a uint16_t in a label and one to a word in the bodies. Half of a surrogate pair may stand alone.
  *
+ * Pieces. A file that comes bit by bit can be checked without storing it: jdr_session_open, jdr_session_piece for each piece, and at the end
+ * jdr_session_verdict. A session is a struct that the caller lends to each of them.
+ *
  * Cost. Each call takes time in proportion to what it is given. Each question about a row checks the whole table first, so asking about
  * every row costs rows times table.
  *
@@ -43,9 +46,9 @@
 
 /* The version of this library, not of the format. A program built with one version runs with every later one of the same major number. */
 #define JDR_LIBRARY_MAJOR 1
-#define JDR_LIBRARY_MINOR 0
+#define JDR_LIBRARY_MINOR 1
 #define JDR_LIBRARY_PATCH 0
-#define JDR_LIBRARY_VERSION "1.0.0"
+#define JDR_LIBRARY_VERSION "1.1.0"
 
 #ifdef __cplusplus
 extern "C" {
@@ -67,7 +70,7 @@ enum {
     JDR_BAD_CHAR = 7,            /* a char is not allowed here in this version */
     JDR_BAD_COUNT = 8,           /* a count or length is negative, or 0 where 1 is needed (a group may be empty); or a dash count is odd */
     JDR_BAD_COMPONENT = 9,       /* a paint component is out of range */
-    JDR_TOO_DEEP = 10,           /* groups nest deeper than 16, or a chain has more than 4 markers */
+    JDR_TOO_DEEP = 10,           /* groups nest deeper than JDR_DEEPEST_GROUP, or a chain has more than 4 markers */
     JDR_FLOW_FRAME = 11,         /* a flow frame flag is true */
     JDR_UNJOINED = 12,           /* a segment does not start where the one before it ends (below version 1.3) */
     JDR_TRAILING_BYTES = 13,     /* bytes follow the outer group; the offset is the first of them */
@@ -77,7 +80,8 @@ enum {
     JDR_OUTPUT_TOO_SHORT = 17,   /* lend more bytes: the offset is how many are needed */
     JDR_LIST_TOO_SHORT = 18,     /* lend more entries: the offset is how many are needed */
     JDR_NO_SHEET = 19,           /* the bytes are no sheet of a good table */
-    JDR_NOT_A_NUMBER = 20        /* jdr_box: a coordinate is a NaN */
+    JDR_NOT_A_NUMBER = 20,       /* jdr_box: a coordinate is a NaN */
+    JDR_NO_SESSION = 22          /* the struct is no session that jdr_session_open began */
 };
 
 /* Questions about a row (jdr_paint, jdr_text, jdr_description, jdr_box) use two numbers with another meaning. */
@@ -88,6 +92,9 @@ enum {
 
 /* A file may have this many bytes and no more. */
 #define JDR_LONGEST_FILE 65535
+
+/* Groups may nest this deep and no deeper; the outer group has depth 1. */
+#define JDR_DEEPEST_GROUP 16
 
 /* The words of a row of the contents: its kind, the row of the group around it (0 for row 0), start and length of its body in the bodies. */
 #define JDR_ROW_WORDS 4
@@ -158,6 +165,16 @@ struct jdr_box {
     double left, bottom, right, top;
 };
 
+/* A session: what is known so far of a file that comes in pieces. The caller owns it, and may copy it; the copy goes on by itself. Before
+ * jdr_session_open it may hold anything. The fields are the library's own. JDR_NO_SESSION is judged by two of them: depth, the groups whose members
+ * are being checked, and bytes, the bytes given before a verdict, counted up to JDR_LONGEST_FILE + 1. */
+struct jdr_session {
+    uint32_t spent, depth, bytes, number, offset, rows, words, version, stage, width, segments, held;
+    uint64_t parts, run, x, y;
+    uint32_t members[16];
+    uint8_t buffer[184];
+};
+
 /* Names for the structs that are one word in C++ too, where a function hides the struct that shares its name. */
 typedef struct jdr_answer jdr_answer_t;
 typedef struct jdr_color jdr_color_t;
@@ -165,6 +182,7 @@ typedef struct jdr_paint jdr_paint_t;
 typedef struct jdr_text jdr_text_t;
 typedef struct jdr_description jdr_description_t;
 typedef struct jdr_box jdr_box_t;
+typedef struct jdr_session jdr_session_t;
 
 /* Reads a file into a table. The example above shows how to ask for the sizes first. In a flag any byte but 0 is true; its word is 1. Room for
  * contents is counted in whole rows.
@@ -253,6 +271,38 @@ struct jdr_description jdr_description(const uint32_t *contents, size_t contents
  */
 struct jdr_box jdr_box(const uint32_t *contents, size_t contents_len, const uint32_t *bodies, size_t bodies_len, uint32_t row);
 
+/* Begins a session: a check of a file that comes in pieces and is stored nowhere. What the session holds does not matter; a used one begins
+ * anew. The pointer to the session must not be NULL in these three calls, and a piece must not lie in the session.
+ * Answers JDR_ACCEPTED.
+ *
+ *     struct jdr_session session;
+ *     jdr_session_open(&session);
+ */
+struct jdr_answer jdr_session_open(struct jdr_session *session);
+
+/* Gives a session the next bytes of the file, however many, none too. They are not needed afterwards. A fault in them is told by the verdict
+ * and not here. After a verdict a piece changes nothing.
+ * Answers JDR_ACCEPTED; or JDR_NO_SESSION, and leaves the session as it is, exactly if its depth is over JDR_DEEPEST_GROUP or its bytes are over
+ * JDR_LONGEST_FILE + 1. A session that was opened never comes to that. Of any other struct only this is promised: a piece answers JDR_ACCEPTED, a
+ * verdict some number up to JDR_TRAILING_BYTES, and the calls come to an end.
+ *
+ *     while ((piece_len = receive(piece, sizeof piece)) != 0)
+ *         jdr_session_piece(&session, piece, piece_len);
+ */
+struct jdr_answer jdr_session_piece(struct jdr_session *session, const uint8_t *bytes, size_t bytes_len);
+
+/* Gives the verdict on the bytes so far: what jdr_read answers for all of them as one file, with room enough. A file that grows too long is
+ * JDR_TOO_LONG, whatever else is wrong with it. A verdict, a refusal too, spends the session: asked again it is the same, until the session is
+ * opened anew. To ask before the end and go on, ask a copy.
+ * Answers JDR_ACCEPTED with the file's length as the offset and the counts of its table; JDR_TOO_LONG to JDR_TRAILING_BYTES, never
+ * JDR_BAD_FLAG; or JDR_NO_SESSION, as jdr_session_piece.
+ *
+ *     struct jdr_answer verdict = jdr_session_verdict(&session);
+ *     if (verdict.number != JDR_ACCEPTED)
+ *         return refuse(verdict.number, verdict.offset, jdr_message(verdict.number));
+ */
+struct jdr_answer jdr_session_verdict(struct jdr_session *session);
+
 /* Puts the number of an answer into words. */
 static inline const char *jdr_message(uint32_t number)
 {
@@ -278,6 +328,7 @@ static inline const char *jdr_message(uint32_t number)
     case JDR_LIST_TOO_SHORT: return "the list lent is too short";
     case JDR_NO_SHEET: return "the bytes are no sheet of a table";
     case JDR_NOT_A_NUMBER: return "a coordinate is not a number";
+    case JDR_NO_SESSION: return "the session was not opened";
     default: return "a number that no call gives";
     }
 }

@@ -43,6 +43,7 @@ int main(int count, char **arguments)
     size_t length, rows, words;
     uint32_t row, which, number;
     jdr_answer_t answer;
+    jdr_session_t session;
     FILE *source = count == 2 ? fopen(arguments[1], "rb") : NULL;
 
     if (!source)
@@ -52,6 +53,15 @@ int main(int count, char **arguments)
     printf("library %s: %d.%d.%d\n", JDR_LIBRARY_VERSION, JDR_LIBRARY_MAJOR, JDR_LIBRARY_MINOR, JDR_LIBRARY_PATCH);
     for (number = 0; number < 30; number++)
         printf("%u %s; %s\n", (unsigned)number, jdr_message(number), jdr_row_message(number));
+
+    jdr_session_open(&session);
+    jdr_session_piece(&session, file, length / 2);
+    jdr_session_piece(&session, file + length / 2, length - length / 2);
+    printf("session: %u bytes, depth %u of %d\n", (unsigned)session.bytes, (unsigned)session.depth, JDR_DEEPEST_GROUP);
+    answer = jdr_session_verdict(&session);
+    printf("verdict: %s, %u, %u rows, %u words\n", jdr_message(answer.number), (unsigned)answer.offset, (unsigned)answer.rows, (unsigned)answer.words);
+    session.bytes = JDR_LONGEST_FILE + 2;
+    printf("no session: %s\n", jdr_session_verdict(&session).number == JDR_NO_SESSION ? "22" : "ANOTHER");
 
     answer = jdr_read(file, length, contents, sizeof contents / sizeof *contents, bodies, sizeof bodies / sizeof *bodies);
     printf("read: %s\n", jdr_message(answer.number));

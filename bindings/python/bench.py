@@ -5,11 +5,14 @@ runs it.
 import sys
 import time
 
-from jdr import Plan, Refused, Which
+from jdr import Plan, Refused, Session, Which
 
 # A measurement is the best of so many batches, each of about this time: a shared machine only ever slows one down.
 BATCHES = 60
 BATCH = 0.003
+
+# The bytes that a session is given at a time.
+PIECE = 512
 
 
 def timed(count, call):
@@ -38,9 +41,18 @@ def asked(question, *arguments):
     return ask
 
 
+def judged(pieces):
+    """The verdict of a session on these pieces."""
+    session = Session()
+    for piece in pieces:
+        session.feed(piece)
+    return session.verdict()
+
+
 def measure(name, file):
     plan = Plan.read(file)
     sheet = plan.write_sheet()
+    pieces = [file[at : at + PIECE] for at in range(0, len(file), PIECE)]
     measured = {
         "read": lambda: Plan.read(file),
         "check": plan.check,
@@ -52,6 +64,7 @@ def measure(name, file):
         "text": asked(plan.text, 1),
         "description": asked(plan.description, 1),
         "box": asked(plan.extent, 1),
+        "session": lambda: judged(pieces),
         "walk": lambda: sum(each.kind + len(each.groups) for each in plan.objects),
     }
     for call, run in measured.items():

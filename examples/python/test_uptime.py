@@ -1,4 +1,4 @@
-"""Tests of the uptime: lists that cannot be used, labels with quotes, and that no figure leaves a tool of the plan out. tools/examples runs
+"""Tests of the uptime: lists that cannot be used, labels with quotes, and that the figure leaves no tool of the plan out. tools/examples runs
 them, and compares the program with the independent one on the lists of examples/lists.
 """
 
@@ -18,7 +18,7 @@ class Uptime(unittest.TestCase):
 
     def figure(self, hours):
         (first, *named), matched = uptime.report(FLOOR, hours, 200)
-        return (float(first.split()[1]) if first.startswith("uptime ") else None), first, named, matched
+        return float(first.removeprefix("uptime ").removeprefix("at least ").split()[0]), first, named, matched
 
     def test_all_labels_are_there(self):
         figure, first, named, matched = self.figure({**TOOLS, **PLACES})
@@ -26,12 +26,15 @@ class Uptime(unittest.TestCase):
         self.assertIn(" over the 5 tools of the plan ", first)
         self.assertTrue(first.endswith(" (labels that are no tools: 5)"), first)
 
-    def test_no_figure_leaves_a_label_of_the_plan_out(self):
+    def test_a_label_that_is_not_in_the_list_counts_as_not_run(self):
         whole = {**TOOLS, **PLACES}
-        for label in whole:
+        for label, own in whole.items():
             figure, first, named, matched = self.figure({other: run for other, run in whole.items() if other != label})
-            self.assertEqual((figure, matched), (None, False))
-            self.assertTrue(first.endswith(" not in the list: 1 of 10"), first)
+            tools = 5 if label in TOOLS else 6
+            self.assertEqual((figure, matched), (round((500 - (own or 0)) / (2 * tools), 1), False))
+            self.assertTrue(first.startswith("uptime at least "), first)
+            self.assertIn(f" over the {tools} tools of the plan ", first)
+            self.assertTrue(first.endswith("; not in the list, so counted as not run: 1)"), first)
             self.assertEqual(named, [f"on the plan, not in the list: {label}"])
 
     def test_a_label_that_is_nowhere_is_told_with_the_figure(self):

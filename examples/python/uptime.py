@@ -3,9 +3,9 @@
 The list is CSV with the columns label and hours. The hours `-` say that a label is no tool: a bay, a door. A tool is a label of the plan,
 however many objects have it; objects without a label are none.
 
-A figure never leaves a tool of the plan out, and never puts hours in place of those that are not known. So there is no figure where the plan
-is refused, and none where a label of the plan is not in the list: it may be a tool. A label that is in the list and not on the plan is not
-counted, and the figure's own line says that there is one. Every label that is missing on either side is named.
+A figure never leaves a tool of the plan out. A label of the plan that is not in the list may be a tool, and its hours are not known: it counts as
+a tool that did not run, and the figure is then 'at least'. A label that is in the list and not on the plan is not counted. The figure's own line
+says how many there are of both, and every one is named. A plan that is refused gives no figure.
 
 Exit status 1 where a label was named; 2 where the plan is refused or the list is bad.
 """
@@ -46,16 +46,19 @@ def hours_by_label(lines, period):
 
 
 def figure(labels, hours, unplaced, period):
-    """The first line: the uptime, with what it is over, or why there is none."""
-    unlisted = sum(label not in hours for label in labels)
-    if unlisted:
-        return f"no figure: labels of the plan that are not in the list: {unlisted} of {len(labels)}"
-    run = [hours[label] for label in labels if hours[label] is not None]
+    """The first line: the uptime, with what it is over."""
+    run = [hours.get(label, 0.0) for label in labels]
+    run = [own for own in run if own is not None]
     if not run:
         return "no figure: no label of the plan is a tool"
-    line = f"uptime {100 * sum(run) / (len(run) * period):.1f} % over the {len(run)} tools of the plan in {period:g} hours"
-    others = f"; labels of the list that are not on the plan: {len(unplaced)}" if unplaced else ""
-    return f"{line} (labels that are no tools: {len(labels) - len(run)}{others})"
+    unlisted = sum(label not in hours for label in labels)
+    notes = [f"labels that are no tools: {len(labels) - len(run)}"]
+    if unlisted:
+        notes.append(f"not in the list, so counted as not run: {unlisted}")
+    if unplaced:
+        notes.append(f"labels of the list that are not on the plan: {len(unplaced)}")
+    share = 100 * sum(run) / (len(run) * period)
+    return f"uptime {'at least ' if unlisted else ''}{share:.1f} % over the {len(run)} tools of the plan in {period:g} hours ({'; '.join(notes)})"
 
 
 def report(plan, hours, period):

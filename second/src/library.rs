@@ -2,6 +2,7 @@
 //! that lacks the call could not be linked.
 
 use second::answer::{Answer, BoxAnswer, DescriptionAnswer, PaintAnswer, TextAnswer};
+use second::session::LentSession;
 
 #[link(name = "jdr_c", kind = "static")]
 extern "C" {
@@ -93,6 +94,15 @@ extern "C" {
         bodies: *mut u32,
         bodies_len: usize,
     ) -> Answer;
+
+    #[cfg(feature = "session")]
+    fn jdr_session_open(session: *mut LentSession) -> Answer;
+
+    #[cfg(feature = "session")]
+    fn jdr_session_piece(session: *mut LentSession, bytes: *const u8, bytes_len: usize) -> Answer;
+
+    #[cfg(feature = "session")]
+    fn jdr_session_verdict(session: *mut LentSession) -> Answer;
 }
 
 /// A run that is lent for reading: a pointer and a length in elements.
@@ -189,5 +199,35 @@ pub fn sheet_read(sheet: Given<u8>, contents: Lent<u32>, bodies: Lent<u32>) -> O
 
 #[cfg(not(feature = "sheet_read"))]
 pub fn sheet_read(_: Given<u8>, _: Lent<u32>, _: Lent<u32>) -> Option<Answer> {
+    None
+}
+
+#[cfg(feature = "session")]
+pub fn session_open(session: &mut LentSession) -> Option<Answer> {
+    Some(unsafe { jdr_session_open(session) })
+}
+
+#[cfg(not(feature = "session"))]
+pub fn session_open(_: &mut LentSession) -> Option<Answer> {
+    None
+}
+
+#[cfg(feature = "session")]
+pub fn session_piece(session: &mut LentSession, bytes: Given<u8>) -> Option<Answer> {
+    Some(unsafe { jdr_session_piece(session, bytes.0, bytes.1) })
+}
+
+#[cfg(not(feature = "session"))]
+pub fn session_piece(_: &mut LentSession, _: Given<u8>) -> Option<Answer> {
+    None
+}
+
+#[cfg(feature = "session")]
+pub fn session_verdict(session: &mut LentSession) -> Option<Answer> {
+    Some(unsafe { jdr_session_verdict(session) })
+}
+
+#[cfg(not(feature = "session"))]
+pub fn session_verdict(_: &mut LentSession) -> Option<Answer> {
     None
 }

@@ -7,7 +7,7 @@ mod compare;
 #[cfg(feature = "linked")]
 mod library;
 
-use second::{examples, lister, make, read, table, uptime};
+use second::{examples, lister, make, pipe, read, table, uptime};
 use std::fs;
 use std::path::Path;
 use std::process::ExitCode;
@@ -16,6 +16,7 @@ const USAGE: &str = "\
 second read FILE                         the answer, and the lister's lines of an accepted file
 second plan FILE [LABEL]                 what the programs in examples/ print for a plan or a sheet
 second plan store FILE SHEET             the same where they store a plan's sheet
+second pipe BYTES <FILE                  what the programs named pipe print, with so many bytes at a time
 second uptime FILE LIST HOURS            what the uptime program prints
 second make-examples DIR                 their plans and sheets
 second make-cases DIR [SEED]             cases of all calls
@@ -33,6 +34,7 @@ fn main() -> ExitCode {
         ["plan", file] => plan(file, None),
         ["plan", file, label] => plan(file, Some(label)),
         ["plan", "store", file, sheet] => store(file, sheet),
+        ["pipe", most] => number(most).and_then(|most| piped(most as usize)),
         ["uptime", file, list, hours] => uptime_of(file, list, hours),
         ["make-examples", folder] => make_examples(Path::new(folder)),
         ["make-cases", folder] => make_cases(folder, 1),
@@ -85,6 +87,12 @@ fn store(plan: &str, name: &str) -> Result<ExitCode, String> {
             Ok(ExitCode::SUCCESS)
         }
     }
+}
+
+fn piped(most: usize) -> Result<ExitCode, String> {
+    let (line, well) = pipe::line(std::io::stdin().lock(), most).map_err(|_| "the plan cannot be read")?;
+    println!("{line}");
+    Ok(ExitCode::from(u8::from(!well)))
 }
 
 fn uptime_of(file: &str, list: &str, hours: &str) -> Result<ExitCode, String> {

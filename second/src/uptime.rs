@@ -26,22 +26,25 @@ pub fn lines(file: &[u8], listed: &str, period: f64) -> (String, u8) {
     let unlisted: Vec<&String> = labels.iter().filter(|label| of(label).is_none()).collect();
     let unplaced: Vec<&str> =
         hours.iter().map(|(label, _)| *label).filter(|label| labels.iter().all(|own| own != label)).collect();
-    let run: Vec<f64> = labels.iter().filter_map(|label| of(label)?.1).collect();
-    let (known, all) = (run.len(), labels.len());
-    let mut lines = if !unlisted.is_empty() {
-        format!("no figure: labels of the plan that are not in the list: {} of {all}\n", unlisted.len())
-    } else if known == 0 {
+    // A label that is not in the list may be a tool: it counts as one that did not run.
+    let run: Vec<f64> = labels.iter().filter_map(|label| of(label).map_or(Some(0.0), |(_, hours)| *hours)).collect();
+    let (tools, all) = (run.len(), labels.len());
+    let mut lines = if tools == 0 {
         "no figure: no label of the plan is a tool\n".to_string()
     } else {
-        let percent = 100.0 * run.iter().sum::<f64>() / (known as f64 * period);
+        let percent = 100.0 * run.iter().sum::<f64>() / (tools as f64 * period);
+        let (bound, not_run) = match unlisted.len() {
+            0 => ("", String::new()),
+            count => ("at least ", format!("; not in the list, so counted as not run: {count}")),
+        };
         let others = match unplaced.len() {
             0 => String::new(),
             count => format!("; labels of the list that are not on the plan: {count}"),
         };
-        let no_tools = all - known;
+        let no_tools = all - tools;
         format!(
-            "uptime {percent:.1} % over the {known} tools of the plan in {period} hours \
-             (labels that are no tools: {no_tools}{others})\n"
+            "uptime {bound}{percent:.1} % over the {tools} tools of the plan in {period} hours \
+             (labels that are no tools: {no_tools}{not_run}{others})\n"
         )
     };
     for label in &unlisted {

@@ -1,6 +1,6 @@
 //! The cases of each call: what they hold, and that a seed always gives the same.
 
-use second::make::{first_numbers, lists, reads, sheets, tables, Case, CALLS};
+use second::make::{first_numbers, lists, reads, sessions, sheets, tables, Case, CALLS};
 use second::sheet;
 use std::collections::BTreeSet;
 
@@ -105,6 +105,39 @@ fn the_sheets_that_are_read_are_of_all_versions_and_kinds() {
     let kinds: BTreeSet<u32> =
         good.iter().flat_map(|good| good.table.contents.iter().step_by(4).copied()).collect();
     assert!(kinds.into_iter().eq(1..=5));
+}
+
+#[test]
+fn sessions_hold_every_verdict_and_made_up_ones() {
+    for seed in [1, 2, 77] {
+        let cases = sessions::cases(seed);
+        let numbers = first_numbers(&cases);
+        for number in (0..=13).filter(|number| *number != 5) {
+            assert!(numbers.contains_key(&number), "{number}: {numbers:?}");
+        }
+        assert!(numbers.keys().all(|number| *number <= 13 && *number != 5));
+        for made_up in ["22", "-"] {
+            assert!(
+                cases.iter().filter(|case| case.groups.last().unwrap().starts_with(made_up)).count() >= 20
+            );
+        }
+        assert!(cases.len() <= 350 && bytes(&cases) < 2_000_000);
+    }
+}
+
+/// A verdict is repeated whatever comes behind it; the one in the middle is often another.
+#[test]
+fn a_session_repeats_its_verdict() {
+    let cases = sessions::cases(1);
+    let verdict = |group: &str| group.split(' ').take(4).map(str::to_string).collect::<Vec<_>>();
+    let mut others = 0;
+    for case in &cases {
+        let verdicts: Vec<_> = case.groups.iter().map(|group| verdict(group)).collect();
+        assert_eq!(verdicts.len(), 6);
+        assert_eq!((&verdicts[0], &verdicts[2]), (&verdicts[1], &verdicts[3]), "{}", case.name);
+        others += usize::from(verdicts[0] != verdicts[2]);
+    }
+    assert!(others >= 100, "{others}");
 }
 
 #[test]

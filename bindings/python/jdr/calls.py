@@ -85,6 +85,16 @@ class BoxAnswer(_Struct):
     _fields_ = _numbers("number") + [(name, ctypes.c_double) for name in ("left", "bottom", "right", "top")]
 
 
+class SessionStruct(_Struct):
+    """What is known so far of a file that comes in pieces: 328 bytes, which may hold anything before `session_open`."""
+
+    _fields_ = (
+        _numbers("spent", "depth", "bytes", "number", "offset", "rows", "words", "version", "stage", "width", "segments", "held")
+        + [(name, ctypes.c_uint64) for name in ("parts", "run", "x", "y")]
+        + [("members", ctypes.c_uint32 * 16), ("buffer", ctypes.c_uint8 * 184)]
+    )
+
+
 _loaded = _library.load()
 
 
@@ -99,17 +109,23 @@ def _lent(run: Run, size: int) -> tuple[object, int]:
     return run, len(run) // size
 
 
+def _function(name: str, takes: list[type], answer: type) -> Callable[..., object]:
+    """The library's function of this name."""
+    try:
+        function = getattr(_loaded, name)
+    except AttributeError:
+        raise ImportError(f"{_loaded._name} has no {name}: it is older than this package") from None
+    function.argtypes = takes
+    function.restype = answer
+    return function
+
+
 _Given = TypeVar("_Given")
 
 
 def _call(name: str, does: str, sizes: tuple[int, ...], answer: type[_Given], numbers: int = 0, written: int = 0) -> Callable[..., _Given]:
     """The call of this name, over runs of elements of these sizes and then so many numbers. The last `written` runs are lent for writing."""
-    try:
-        function = getattr(_loaded, name)
-    except AttributeError:
-        raise ImportError(f"{_loaded._name} has no {name}: it is older than this package") from None
-    function.argtypes = [ctypes.c_void_p, ctypes.c_size_t] * len(sizes) + [ctypes.c_uint32] * numbers
-    function.restype = answer
+    function = _function(name, [ctypes.c_void_p, ctypes.c_size_t] * len(sizes) + [ctypes.c_uint32] * numbers, answer)
     first_written = len(sizes) - written
 
     def call(*lent):
@@ -145,3 +161,24 @@ paint = _call("jdr_paint", "paint(contents, bodies, row, which): a paint of a ro
 text = _call("jdr_text", "text(contents, bodies, row): where the chars of a row's text stand.", _TABLE, TextAnswer, numbers=1)
 description = _call("jdr_description", "description(contents, bodies, row): where the chars of a row's description stand.", _TABLE, DescriptionAnswer, numbers=1)
 box = _call("jdr_box", "box(contents, bodies, row): the box around a row's outline.", _TABLE, BoxAnswer, numbers=1)
+
+# `byref` makes the pointer, since ctypes would pass None on as NULL
+_SESSION = ctypes.POINTER(SessionStruct)
+_open = _function("jdr_session_open", [_SESSION], Answer)
+_piece = _function("jdr_session_piece", [_SESSION, ctypes.c_void_p, ctypes.c_size_t], Answer)
+_verdict = _function("jdr_session_verdict", [_SESSION], Answer)
+
+
+def session_open(session: SessionStruct) -> Answer:
+    """session_open(session): begins a session, whatever it holds."""
+    return _open(ctypes.byref(session))
+
+
+def session_piece(session: SessionStruct, piece: Run) -> Answer:
+    """session_piece(session, piece): gives a session the next bytes of a file."""
+    return _piece(ctypes.byref(session), *_lent(piece, _BYTE))
+
+
+def session_verdict(session: SessionStruct) -> Answer:
+    """session_verdict(session): what `read` answers for the bytes so far, with room enough. It spends the session."""
+    return _verdict(ctypes.byref(session))

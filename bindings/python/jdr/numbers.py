@@ -23,6 +23,7 @@ OUTPUT_TOO_SHORT = 17
 LIST_TOO_SHORT = 18
 NO_SHEET = 19
 NOT_A_NUMBER = 20
+NO_SESSION = 22
 
 # of the questions about a row, which give these two another meaning
 NO_ROW = 6
@@ -50,6 +51,7 @@ MESSAGES = {
     LIST_TOO_SHORT: "the list lent is too short",
     NO_SHEET: "the bytes are no sheet of a table",
     NOT_A_NUMBER: "a coordinate is not a number",
+    NO_SESSION: "the session was not opened",
 }
 UNKNOWN = "a number that no call gives"
 

@@ -1,5 +1,6 @@
 """The package says the same as include/jdr.h: numbers, sentences, kinds and the version."""
 
+import ctypes
 import re
 import unittest
 
@@ -31,6 +32,16 @@ class Header(unittest.TestCase):
         for name, said in sentences:
             self.assertEqual(numbers.refused_row(NAMED[name]).message == said, name in rows or NAMED[name] not in (6, 7))
         self.assertIn(f'default: return "{numbers.UNKNOWN}";', committed.HEADER)
+
+    def test_a_session_has_the_same_fields(self):
+        declared = re.search(r"^struct jdr_session \{\n(.*?)^\};", committed.HEADER, re.M | re.S).group(1)
+        kinds = {"uint32_t": ctypes.c_uint32, "uint64_t": ctypes.c_uint64, "uint8_t": ctypes.c_uint8}
+        fields = []
+        for kind, names in re.findall(r"^ +(\w+) (.*);$", declared, re.M):
+            for name, count in re.findall(r"(\w+)(?:\[(\d+)\])?(?:, |$)", names):
+                fields.append((name, kinds[kind] * int(count) if count else kinds[kind]))
+        self.assertEqual(calls.SessionStruct._fields_, fields)
+        self.assertEqual(ctypes.sizeof(calls.SessionStruct), 328)
 
     def test_limits_and_versions_are_the_same(self):
         defined = dict(re.findall(r"#define JDR_(\w+) \"?([\d.]+)", committed.HEADER))

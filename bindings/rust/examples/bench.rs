@@ -1,13 +1,16 @@
 //! What the calls cost through the crate beside the same calls of C, on the plans that are named: microseconds a call, a line for each as `plan call C Rust`.
 //! tools/bench_bindings runs it.
 
-use jdr::{calls, Table, Which};
+use jdr::{calls, Session, Table, Which};
 use std::hint::black_box;
 use std::time::{Duration, Instant};
 
 /// A measurement is the best of so many batches, each of about this time: a shared machine only ever slows one down.
 const BATCHES: usize = 60;
 const BATCH: Duration = Duration::from_millis(3);
+
+/// The bytes that a session is given at a time.
+const PIECE: usize = 512;
 
 fn timed<T>(count: u32, call: &mut impl FnMut() -> T) -> Duration {
     let begun = Instant::now();
@@ -57,6 +60,20 @@ fn measure(name: &str, file: &[u8]) -> Result<(), jdr::Refused> {
     line("description", c, time(|| black_box(plan).description(1).map(|own| own.to_string())));
     let c = time(|| calls::extent(black_box(contents), bodies, 1));
     line("box", c, time(|| black_box(plan).extent(1)));
+    let mut lent = calls::SessionStruct::ZERO;
+    let c = time(|| {
+        calls::session_open(&mut lent);
+        for piece in black_box(file).chunks(PIECE) {
+            calls::session_piece(&mut lent, piece);
+        }
+        calls::session_verdict(&mut lent)
+    });
+    let session = || {
+        let mut session = Session::new();
+        black_box(file).chunks(PIECE).for_each(|piece| session.feed(piece));
+        session.verdict()
+    };
+    line("session", c, time(session));
     let walk =
         || plan.objects().map(|object| object.kind() as usize + object.groups().count()).sum::<usize>();
     line("walk", f64::NAN, time(walk));

@@ -1,6 +1,7 @@
 //! The library's calls as C has them, over slices: every call takes every input, and its answer has a number. [`crate::TableRef`] is easier.
 //!
-//! A number is 0 where the call is done; [`crate::Reason`] has the others. After any other number the memory lent is as it was.
+//! A number is 0 where the call is done; [`crate::Reason`] has the others. After any other number the memory lent is as it was, but for a
+//! session, which is spent by its verdict.
 
 /// What a call answers: a number, the offset, and the counts of rows and of words in the bodies.
 #[repr(C)]
@@ -62,8 +63,61 @@ pub struct BoxAnswer {
     pub top: f64,
 }
 
+/// What is known so far of a file that comes in pieces. Before [`session_open`] it may hold anything.
+#[repr(C)]
+#[derive(Clone, Copy, Debug, PartialEq, Eq)]
+pub struct SessionStruct {
+    pub spent: u32,
+    /// How many groups are open.
+    pub depth: u32,
+    /// How many bytes were given, counted up to one more than a file may have.
+    pub bytes: u32,
+    pub number: u32,
+    pub offset: u32,
+    pub rows: u32,
+    pub words: u32,
+    pub version: u32,
+    pub stage: u32,
+    pub width: u32,
+    pub segments: u32,
+    pub held: u32,
+    pub parts: u64,
+    pub run: u64,
+    pub x: u64,
+    pub y: u64,
+    pub members: [u32; 16],
+    pub buffer: [u8; 184],
+}
+
+// C's struct has this size; the library would write behind a shorter one.
+const _: () = assert!(core::mem::size_of::<SessionStruct>() == 328);
+
+impl SessionStruct {
+    /// All numbers are 0; it is not opened.
+    pub const ZERO: SessionStruct = SessionStruct {
+        spent: 0,
+        depth: 0,
+        bytes: 0,
+        number: 0,
+        offset: 0,
+        rows: 0,
+        words: 0,
+        version: 0,
+        stage: 0,
+        width: 0,
+        segments: 0,
+        held: 0,
+        parts: 0,
+        run: 0,
+        x: 0,
+        y: 0,
+        members: [0; 16],
+        buffer: [0; 184],
+    };
+}
+
 mod c {
-    use super::{Answer, BoxAnswer, DescriptionAnswer, PaintAnswer, TextAnswer};
+    use super::{Answer, BoxAnswer, DescriptionAnswer, PaintAnswer, SessionStruct, TextAnswer};
 
     // A run is a pointer and a length.
     extern "C" {
@@ -144,10 +198,14 @@ mod c {
             bodies_len: usize,
             row: u32,
         ) -> BoxAnswer;
+        pub fn jdr_session_open(session: *mut SessionStruct) -> Answer;
+        pub fn jdr_session_piece(session: *mut SessionStruct, bytes: *const u8, bytes_len: usize) -> Answer;
+        pub fn jdr_session_verdict(session: *mut SessionStruct) -> Answer;
     }
 }
 
-/// Calls the C function of this name: each shared run is `&run`, each run lent for writing `&mut run`, and numbers stand behind a `;`.
+/// Calls the C function of this name: each shared run is `&run`, each run lent for writing `&mut run`, and numbers and a session stand as
+/// they are.
 ///
 /// Safe in all calls: a slice is aligned and good for its length, a `&mut` one overlaps no other, and the calls take any content.
 macro_rules! call {
@@ -212,4 +270,19 @@ pub fn description(contents: &[u32], bodies: &[u32], row: u32) -> DescriptionAns
 /// The box around a row's outline: `jdr_box`, whose name is a word of the language here.
 pub fn extent(contents: &[u32], bodies: &[u32], row: u32) -> BoxAnswer {
     call!(jdr_box, &contents, &bodies, row)
+}
+
+/// Begins a session, whatever it holds.
+pub fn session_open(session: &mut SessionStruct) -> Answer {
+    call!(jdr_session_open, session)
+}
+
+/// Gives a session the next bytes of a file.
+pub fn session_piece(session: &mut SessionStruct, bytes: &[u8]) -> Answer {
+    call!(jdr_session_piece, session, &bytes)
+}
+
+/// What [`read`] answers for the bytes so far, with room enough. It spends the session.
+pub fn session_verdict(session: &mut SessionStruct) -> Answer {
+    call!(jdr_session_verdict, session)
 }

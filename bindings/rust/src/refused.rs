@@ -77,6 +77,7 @@ reasons! {
         ListTooShort = 18, "the list lent is too short";
         NoSheet = 19, "the bytes are no sheet of a table";
         NotANumber = 20, "a coordinate is not a number";
+        NoSession = 22, "the session was not opened";
     }
     rows {
         NoRow = 6, "the table has no such row";
@@ -84,7 +85,7 @@ reasons! {
     }
 }
 
-/// The library refused what it was given, and left all memory lent as it was.
+/// The library refused what it was given, and left all memory lent as it was; only a session is spent by a refusal.
 #[derive(Clone, Copy, Debug, PartialEq, Eq, Hash)]
 pub struct Refused {
     /// Why.

@@ -1,9 +1,11 @@
 // The calls of the library, for other programs: each with its contract, which decides its answer and all lent memory for every input. What each
-// promises stands in crates/promises/specs/Promises.antt, from top to bottom. The numbers of answers are 01's.
+// promises stands in crates/promises/specs/Promises.antt, from top to bottom, and for those on a session in crates/pieces/specs/SessionPromises.antt. The numbers
+// of answers are 01's.
 ghost use Rattle.promises.specs.Promises.{Reads, Checks, Writes, WritesSheet, ReadsSheet, Lists, Paints, Texts, Descriptions, Extents};
 ghost use mathlib.Core.Path.{_≡_};
 ghost use lib.ListN.{length};
 ghost use Rattle.drawing.specs.Questions.{shown};
+ghost use Rattle.pieces.specs.SessionPromises.{Opens, Pieces, Verdicts};
 pub use drawing::Answer;
 pub use drawing::DescriptionAnswer;
 pub use drawing::Extent;
@@ -12,6 +14,10 @@ pub use drawing::PaintAnswer;
 pub use drawing::Span;
 pub use drawing::TextAnswer;
 pub use drawing::Which;
+pub use pieces::Session;
+use session::piece::pieced;
+use session::verdict::judged;
+use session::verdict::opened;
 
 // Reads a file into a table: contents, a row of four words an object, and bodies. In a flag any byte but 0 is true, and its word is 1. Number 0 with the
 // file's length and the counts of rows and words; 1 with 65,535; 2 to 12, never 5, with the offset of the field at fault; 13 with that of the first byte behind
@@ -97,4 +103,32 @@ pub fn shown<'a>(alternative: &'a [u32], plain: &'a [u32]) -> &'a [u32]
     ensures { λ r. ⌜ r ≡ shown (length (now (alternative .entry))) (alternative .entry) (plain .entry) ⌝ }
 {
     questions::shown::shown(alternative, plain)
+}
+
+// Opens a checking session: it has been given no byte, whatever was in it before. Number 0.
+pub fn open(session: &mut Session) -> Answer
+    ensures { λ r. ⌜ Opens (now (session .exit)) r ⌝ }
+{
+    let t = opened(*session);
+    *session = t.session;
+    t.answer
+}
+
+// Gives a session the next bytes of a plan, any number of them. Number 0; or 22, with the session as it was, where its depth is over 16 or its bytes over 65,536.
+// After a verdict nothing changes.
+pub fn piece(session: &mut Session, bytes: &[u8]) -> Answer
+    ensures { λ r. ⌜ Pieces (now (session .entry)) (now (bytes .entry)) (now (session .exit)) r ⌝ }
+{
+    let t = pieced(*session, bytes);
+    *session = t.session;
+    t.answer
+}
+
+// What `read` answers for the bytes given so far, with room enough. It spends the session: asked again, it answers the same. Or 22, as `piece`.
+pub fn verdict(session: &mut Session) -> Answer
+    ensures { λ r. ⌜ Verdicts (now (session .entry)) (now (session .exit)) r ⌝ }
+{
+    let t = judged(*session);
+    *session = t.session;
+    t.answer
 }

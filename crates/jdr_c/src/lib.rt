@@ -1,12 +1,17 @@
 // The calls of `jdr` for programs in other languages, under names of C and with C's way of passing: a slice is a pointer and a length in elements, an
-// answer a struct by value. include/jdr.h declares them. Each has the contract of the call that it passes on to (`jdr_paint` the same, said of a struct),
+// answer a struct by value. include/jdr.h declares them. Each has the contract of jdr's call (`jdr_paint` the same, said of a struct),
 // and asks nothing of its inputs but what C cannot say: that a run is aligned and as long as it is said to be, and that one lent for writing overlaps no other.
 ghost use Rattle.promises.specs.Promises.{Reads, Checks, Writes, WritesSheet, ReadsSheet, Lists, Texts, Descriptions, Extents};
 ghost use Rattle.jdr_c.specs.Values.{PaintsForC};
+ghost use Rattle.pieces.specs.SessionPromises.{Opens, Pieces, Verdicts};
 use jdr::Answer;
 use jdr::DescriptionAnswer;
 use jdr::ExtentAnswer;
+use jdr::Session;
 use jdr::TextAnswer;
+use session::piece::pieced;
+use session::verdict::judged;
+use session::verdict::opened;
 
 mod paint;
 
@@ -110,4 +115,34 @@ pub extern "C" fn jdr_box(contents: &[u32], bodies: &[u32], row: u32) -> ExtentA
     ensures { λ r. ⌜ Extents (now (contents .entry)) (now (bodies .entry)) row r ⌝ }
 {
     jdr::extent(contents, bodies, row)
+}
+
+// As `jdr::open`. The calls on a session copy it out and store it back themselves, as those of `jdr` do.
+#[no_mangle]
+pub extern "C" fn jdr_session_open(session: &mut Session) -> Answer
+    ensures { λ r. ⌜ Opens (now (session .exit)) r ⌝ }
+{
+    let t = opened(*session);
+    *session = t.session;
+    t.answer
+}
+
+// As `jdr::piece`.
+#[no_mangle]
+pub extern "C" fn jdr_session_piece(session: &mut Session, bytes: &[u8]) -> Answer
+    ensures { λ r. ⌜ Pieces (now (session .entry)) (now (bytes .entry)) (now (session .exit)) r ⌝ }
+{
+    let t = pieced(*session, bytes);
+    *session = t.session;
+    t.answer
+}
+
+// As `jdr::verdict`.
+#[no_mangle]
+pub extern "C" fn jdr_session_verdict(session: &mut Session) -> Answer
+    ensures { λ r. ⌜ Verdicts (now (session .entry)) (now (session .exit)) r ⌝ }
+{
+    let t = judged(*session);
+    *session = t.session;
+    t.answer
 }

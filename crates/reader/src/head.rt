@@ -30,7 +30,7 @@ ghost use Rattle.reader.specs.FieldsAt.{numberAt};
 ghost use Rattle.reader.specs.Heads.{Heads, versionAt, charsAt};
 
 // Three chars as one number.
-fn chars_at(file: &[u8], at: usize) -> u64
+pub fn chars_at(file: &[u8], at: usize) -> u64
     requires { ⌜ at + 6 ≤ length (now file) ⌝ }
     ensures { λ r. ⌜ r ≡ numberAt 6 (now (file .entry)) at ⌝ }
 {

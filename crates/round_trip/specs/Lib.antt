@@ -4,3 +4,4 @@ pub mod RoundTripLaws
 pub mod ShownLaws
 pub mod SheetTrip
 pub mod SheetTripLaws
+pub mod Cuts

@@ -1,12 +1,13 @@
 // Demand 2 of the calls themselves: what is read comes back when it is written, with each true flag made 1, what is written comes back when it is read, and a
 // table is checked with 0 exactly when some file gives it. And the text to show of a row, found by two calls. `sheets` has round trips of
-// sheets.
+// sheets, `cuts` a file that is given to a session in pieces.
 use drawing::Answer;
 ghost use mathlib.Core.Path.{_≡_};
 ghost use Prim.Native.Nat.{_+_, _≤_};
 ghost use lib.ListN.{length, take, drop};
 ghost use Rattle.round_trip.specs.RoundTrip.{FileComesBack, TableComesBack, Checked, ShowsText};
 
+pub mod cuts;
 pub mod sheets;
 
 // The answers of two calls, one after the other; the second is the first's where that refused.

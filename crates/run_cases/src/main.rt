@@ -14,6 +14,7 @@ mod hash;
 mod list;
 mod questions;
 mod read;
+mod sessions;
 mod sheet;
 mod table;
 
@@ -64,7 +65,7 @@ fn put_read(buffer: &mut Buffer, used: usize, name: &[u8], fd: i32, room: &mut [
     put_call(buffer, used, &name[0..call], &room[0..length])
 }
 
-// The calls that take bytes; all others take a table.
+// The calls that take bytes, and those of a session; all others take a table.
 fn put_call(buffer: &mut Buffer, used: usize, call: &[u8], file: &[u8]) -> usize {
     if same(call, b"read") {
         return read::put_groups(buffer, used, false, file);
@@ -74,6 +75,9 @@ fn put_call(buffer: &mut Buffer, used: usize, call: &[u8], file: &[u8]) -> usize
     }
     let mut words = [0u32; 104000];
     let count = data::get_words(file, &mut words);
+    if same(call, b"session") {
+        return sessions::put_groups(buffer, used, &words[..count], file);
+    }
     put_table(buffer, used, call, &words[..count])
 }
 

@@ -28,7 +28,7 @@ abbrev pub join : Layout (ℕ × ℕ)
 join = field (byteIn 0 2) ▸ λ is. when (eqb is 0) (field float) 0
 
 -- n fields of one kind, and what comes behind them.
-abbrev manyOf : Kind → ℕ → (List ℕ → Script (Unit {0})) → Script (Unit {0})
+abbrev pub manyOf : Kind → ℕ → (List ℕ → Script (Unit {0})) → Script (Unit {0})
 manyOf k n then = scriptMany {S = Unit {0}} (λ s behind. ask k behind) (λ s a. s) n tt then
 
 -- There are n of them behind n of them.
@@ -46,10 +46,10 @@ above-zero : (m n : ℕ) → m ≡ suc n → ltb 0 m ≡ true
 above-zero m n e = ap (λ k. ltb 0 k) e ∙ lt-ltb 0 (suc n) (omega arith)
 
 -- So many dashes, and what comes behind them and their offset.
-abbrev dashed : Kind → ℕ → Script (Unit {0}) → Script (Unit {0})
+abbrev pub dashed : Kind → ℕ → Script (Unit {0}) → Script (Unit {0})
 dashed k n K = manyOf k n (λ xs. cond (ltb 0 (length xs)) (ask k (λ offset. K)) K)
 
-dashes-and-offset : (k : Kind) (n : ℕ) (K : Script (Unit {0})) → (n ≡ 0 → ⊥) → dashed k n K ≡ manyOf k (n + 1) (λ xs. K)
+pub dashes-and-offset : (k : Kind) (n : ℕ) (K : Script (Unit {0})) → (n ≡ 0 → ⊥) → dashed k n K ≡ manyOf k (n + 1) (λ xs. K)
 dashes-and-offset k zero K some = absurd (some refl)
 dashes-and-offset k (suc n) K some =
     many-behind k (suc n) (λ xs. cond (ltb 0 (length xs)) (ask k (λ offset. K)) K) (ask k (λ offset. K))

@@ -39,7 +39,7 @@ use Rattle.ways.specs.Segments.{straight, segmentLetter, doublesBehind, 
 -- ---- the script of a segment
 
 -- A segment with a start of its own is its letter, its start and as many doubles as the letter says.
-own-segment : (next : Point → Script (Unit {0})) (at : Option Point) → segmentThen true at next ≡ ask segmentLetter (λ c. joinedPoint at ⟫ doublesThen (doublesBehind c) next)
+pub own-segment : (next : Point → Script (Unit {0})) (at : Option Point) → segmentThen true at next ≡ ask segmentLetter (λ c. joinedPoint at ⟫ doublesThen (doublesBehind c) next)
 own-segment next at = ap (ask segmentLetter) (fun-ext (λ c. by (eqb c 76) (eqb c 77)))
   where
     by : (l m : Bool)
@@ -62,7 +62,7 @@ first-segment : (next : Point → Script (Unit {0})) → segmentThen true none n
 first-segment next = own-segment next none ∙ ap (ask segmentLetter) (fun-ext (λ c. point-doubles c next))
 
 -- So is one without a start.
-free-segment : (next : Point → Script (Unit {0})) → segmentThen false none next ≡ spelled 0 next
+pub free-segment : (next : Point → Script (Unit {0})) → segmentThen false none next ≡ spelled 0 next
 free-segment next = ap (ask segmentLetter) (fun-ext (λ c. by (eqb c 76) (eqb c 77)))
   where
     by : (l m : Bool) → cond l (doublesThen 2 next) (cond m (doublesThen 2 next) (doublesThen 6 next)) ≡ doublesThen (0 + cond (l || m) 2 6) next
@@ -71,7 +71,7 @@ free-segment next = ap (ask segmentLetter) (fun-ext (λ c. by (eqb c 76) (eqb c 
     by false false = refl
 
 -- Without starts of their own, segments do not depend on those before them.
-free-segments : (n : ℕ) (at : Option Point) (K : Script (Unit {0})) → segmentsOf false n at ⟫ K ≡ repeat n (segment false none) ⟫ K
+pub free-segments : (n : ℕ) (at : Option Point) (K : Script (Unit {0})) → segmentsOf false n at ⟫ K ≡ repeat n (segment false none) ⟫ K
 free-segments zero at K = refl
 free-segments (suc n) at K = ap (λ (X : Segment → Script (Unit {0})). script (segment false none .format) X) (fun-ext (λ s. free-segments n (some (endOf s)) K))
 

@@ -9,6 +9,7 @@ use second::generate::chars;
 use second::generate::sheets::sheet;
 use second::generate::special::{nested, plain_drawing, sampler, with_chains};
 use second::model::Object;
+use second::session::LentSession;
 use second::table::{self, Table};
 use second::version::{Version, DEEPEST_GROUP};
 use second::write;
@@ -88,7 +89,7 @@ fn deepest(version: Version) -> Vec<Plan> {
 type Use = (&'static str, fn(&Plan));
 
 /// Each call, and the ways to make it that matter.
-const CALLS: [Use; 10] = [
+const CALLS: [Use; 11] = [
     ("jdr_read", |plan| {
         let (mut contents, mut bodies) =
             (vec![0; plan.table.contents.len()], vec![0; plan.table.bodies.len()]);
@@ -160,6 +161,14 @@ const CALLS: [Use; 10] = [
         let (mut contents, mut bodies) =
             (vec![0; plan.table.contents.len()], vec![0; plan.table.bodies.len()]);
         black_box(library::sheet_read(given(&plan.sheet), lent(&mut contents), lent(&mut bodies)));
+    }),
+    ("jdr_session_piece", |plan| {
+        let mut session = LentSession { words: [0; LentSession::WORDS] };
+        black_box(library::session_open(&mut session));
+        for piece in plan.file.chunks(100) {
+            black_box(library::session_piece(&mut session, given(piece)));
+        }
+        black_box(library::session_verdict(&mut session));
     }),
 ];
 

@@ -6,6 +6,7 @@ use second::answer::Answer;
 use second::generate::chars;
 use second::generate::sheets::sheet as sheet_of;
 use second::model::{Chars, Drawing};
+use second::session::{LentSession, Session};
 use second::table::{self, Table};
 use second::{ask, check, direct, extent, list, sheet, write};
 use std::hint::black_box;
@@ -25,11 +26,20 @@ pub enum Call {
     ListEmpty,
     SheetRead,
     SheetWrite,
+    /// With no room: the file is judged and nothing is stored.
+    ReadNoRoom,
+    /// A session from opening to the verdict, given pieces of so many bytes.
+    Session(usize),
 }
 
 impl Call {
-    const ALL: [Call; 9] = [
+    const ALL: [Call; 14] = [
         Call::Read,
+        Call::ReadNoRoom,
+        Call::Session(1),
+        Call::Session(64),
+        Call::Session(512),
+        Call::Session(65_535),
         Call::SheetRead,
         Call::Check,
         Call::Box,
@@ -49,6 +59,7 @@ impl Call {
             Call::List | Call::ListEmpty => cfg!(feature = "list"),
             Call::SheetRead => cfg!(feature = "sheet_read"),
             Call::SheetWrite => cfg!(feature = "sheet_write"),
+            Call::ReadNoRoom | Call::Session(_) => cfg!(feature = "session"),
         })
     }
 
@@ -63,6 +74,11 @@ impl Call {
             Call::ListEmpty => "list-empty",
             Call::SheetRead => "sheet-read",
             Call::SheetWrite => "sheet-write",
+            Call::ReadNoRoom => "read-no-room",
+            Call::Session(1) => "session-1",
+            Call::Session(64) => "session-64",
+            Call::Session(512) => "session-512",
+            Call::Session(_) => "session-65535",
         }
     }
 
@@ -107,6 +123,8 @@ pub struct Plan {
     entries: Vec<u32>,
     sheet: Vec<u8>,
     sheet_output: Vec<u8>,
+    session: LentSession,
+    direct_session: direct::Session,
 }
 
 pub struct Work {
@@ -129,7 +147,21 @@ impl Plan {
         let (label, entries) = (frequent_label(drawing), vec![0; table.rows() as usize]);
         let sheet = sheet_of(drawing);
         let sheet_output = vec![0; sheet.len()];
-        Plan { file, table, contents, bodies, output, label, entries, sheet, sheet_output }
+        let session = LentSession { words: [0; LentSession::WORDS] };
+        let direct_session = direct::Session::default();
+        Plan {
+            file,
+            table,
+            contents,
+            bodies,
+            output,
+            label,
+            entries,
+            sheet,
+            sheet_output,
+            session,
+            direct_session,
+        }
     }
 
     fn read(&mut self, who: Who) -> Answer {
@@ -213,6 +245,42 @@ impl Plan {
             Who::Plain => sheet::write_call(check::good(contents, bodies).as_ref(), sheet),
         }
     }
+
+    fn read_no_room(&mut self, who: Who) -> Answer {
+        let file = &self.file;
+        let answer = match who {
+            Who::Library => library::read(given(file), lent(&mut []), lent(&mut [])),
+            Who::Direct => direct::read(file, &mut [], &mut []),
+            Who::Plain => table::read_call(file, &mut [], &mut []),
+        };
+        // 14 says that the file is good.
+        Answer { number: answer.number ^ 14, ..answer }
+    }
+
+    fn session(&mut self, who: Who, size: usize) -> Answer {
+        let pieces = self.file.chunks(size);
+        match who {
+            Who::Library => {
+                linked(library::session_open(&mut self.session));
+                for piece in pieces {
+                    linked(library::session_piece(&mut self.session, given(piece)));
+                }
+                linked(library::session_verdict(&mut self.session))
+            }
+            Who::Direct => {
+                self.direct_session.open();
+                pieces.for_each(|piece| self.direct_session.piece(piece));
+                self.direct_session.verdict()
+            }
+            Who::Plain => {
+                let mut session = Session::default();
+                for piece in pieces {
+                    session.piece(piece);
+                }
+                session.verdict()
+            }
+        }
+    }
 }
 
 /// A call of the library that is measured only where it is linked.
@@ -251,6 +319,8 @@ impl Work {
                 Call::ListEmpty => plan.list(who, true),
                 Call::SheetRead => plan.sheet_read(who),
                 Call::SheetWrite => plan.sheet_write(who),
+                Call::ReadNoRoom => plan.read_no_room(who),
+                Call::Session(size) => plan.session(who, size),
             };
             assert_eq!(black_box(answer).number, 0, "{} of {}", call.name(), who.name());
         }

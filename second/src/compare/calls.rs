@@ -56,7 +56,7 @@ type OurWriter = fn(Option<&Good>, &mut [u8]) -> Answer;
 type TheirWriter = fn(Given<u32>, Given<u32>, Lent<u8>) -> Option<Answer>;
 
 /// The four numbers of an answer.
-fn words(answer: Answer) -> Vec<u32> {
+pub fn words(answer: Answer) -> Vec<u32> {
     vec![answer.number, answer.offset, answer.rows, answer.words]
 }
 

@@ -5,6 +5,8 @@ mod calls;
 mod report;
 mod rounds;
 mod runs;
+mod session_calls;
+mod sessions;
 mod sheets;
 
 use calls::Comparer;

@@ -16,10 +16,13 @@ pub enum Call {
     Description,
     SheetWrite,
     SheetRead,
+    SessionOpen,
+    SessionPiece,
+    SessionVerdict,
 }
 
 impl Call {
-    const ALL: [Call; 10] = [
+    const ALL: [Call; 13] = [
         Call::Read,
         Call::Check,
         Call::Write,
@@ -30,6 +33,9 @@ impl Call {
         Call::Description,
         Call::SheetWrite,
         Call::SheetRead,
+        Call::SessionOpen,
+        Call::SessionPiece,
+        Call::SessionVerdict,
     ];
 
     fn name(self) -> &'static str {
@@ -44,6 +50,9 @@ impl Call {
             Call::Description => "description",
             Call::SheetWrite => "sheet_write",
             Call::SheetRead => "sheet_read",
+            Call::SessionOpen => "session_open",
+            Call::SessionPiece => "session_piece",
+            Call::SessionVerdict => "session_verdict",
         }
     }
 }
@@ -58,16 +67,29 @@ pub struct Report {
     counts: BTreeMap<(Call, u32), u64>,
     /// In how many rounds the drawing was of a version, or had something worth counting.
     drawings: BTreeMap<String, u64>,
+    /// How many sessions there were of each sort, and how many cuts their files had.
+    sessions: BTreeMap<&'static str, u64>,
     pub disagreements: u64,
 }
 
 impl Report {
     pub fn new(folder: PathBuf) -> Report {
-        Report { folder, seed: 0, counts: BTreeMap::new(), drawings: BTreeMap::new(), disagreements: 0 }
+        Report {
+            folder,
+            seed: 0,
+            counts: BTreeMap::new(),
+            drawings: BTreeMap::new(),
+            sessions: BTreeMap::new(),
+            disagreements: 0,
+        }
     }
 
     pub fn met(&mut self, what: String) {
         *self.drawings.entry(what).or_insert(0) += 1;
+    }
+
+    pub fn in_sessions(&mut self, what: &'static str, count: usize) {
+        *self.sessions.entry(what).or_insert(0) += count as u64;
     }
 
     /// One call: the words of both answers, and where lent memory differs from what it has to be.
@@ -113,11 +135,14 @@ impl Report {
             let numbers = self.counts.iter().filter(|((of, _), _)| *of == call);
             let each: Vec<String> =
                 numbers.map(|((_, number), count)| format!("{number}: {count}")).collect();
-            println!("{:11} {:10}   {}", call.name(), self.count(call), each.join(", "));
+            println!("{:15} {:10}   {}", call.name(), self.count(call), each.join(", "));
         }
         let drawings: Vec<String> =
             self.drawings.iter().map(|(what, count)| format!("{what}: {count}")).collect();
-        println!("drawings           {}", drawings.join(", "));
+        println!("drawings                     {}", drawings.join(", "));
+        let sessions: Vec<String> =
+            self.sessions.iter().map(|(what, count)| format!("{what}: {count}")).collect();
+        println!("sessions                     {}", sessions.join(", "));
         let total: u64 = self.counts.values().sum();
         let seconds = taken.as_secs_f64();
         println!(

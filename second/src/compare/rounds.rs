@@ -2,7 +2,7 @@
 
 use super::boxes;
 use super::calls::{Asked, Comparer};
-use super::sheets;
+use super::{sessions, sheets};
 use second::answer::Answer;
 use second::damage::fields::{of_bodies, of_file, Field};
 use second::damage::{files, tables};
@@ -46,6 +46,7 @@ pub fn round(comparer: &mut Comparer, seed: u64) {
     ask_about(comparer, &round);
     ask_damaged(comparer, &round);
     sheets::round(comparer, &round.table, &round.body_fields);
+    sessions::round(comparer, &round.file, &round.file_fields);
 }
 
 /// Counts the drawing by its version, if it has a text along a path, and by the depths at which it has empty groups.

@@ -1,13 +1,15 @@
-//! Reading, checking, writing, listing, the questions about a box and a description, and storing as a program does it that cares for time: from bytes to words and
-//! back, without the drawing in between and without memory of its own. A first walk judges and counts before anything is stored, so a
-//! refusal stores nothing. The plain modules say what is right; this one is measured beside the library, and `tests/direct.rs`,
-//! `direct_boxes.rs`, `direct_descriptions.rs` and `direct_sheets.rs` hold it to the plain answers.
+//! Reading, checking, writing, listing, the questions about a box and a description, storing and sessions as a program does it that cares
+//! for time: from bytes to words and back, without the drawing in between and without memory of its own, but for a session's. A first walk
+//! judges and counts before anything is stored, so a refusal stores nothing. The plain modules say what is right; this one is measured
+//! beside the library, and `tests/direct.rs`, `direct_boxes.rs`, `direct_descriptions.rs`, `direct_sheets.rs` and `direct_sessions.rs` hold
+//! it to the plain answers.
 
 mod description;
 mod extent;
 mod from_file;
 mod from_table;
 mod list;
+mod session;
 mod sheet;
 mod source;
 mod walk;
@@ -20,6 +22,7 @@ pub use extent::extent;
 use from_file::FromFile;
 use from_table::FromTable;
 pub use list::list;
+pub use session::Session;
 pub use sheet::{sheet_read, sheet_write};
 use source::{Runs, Source};
 

@@ -5,6 +5,7 @@ mod broken;
 pub mod descriptions;
 pub mod lists;
 pub mod reads;
+pub mod sessions;
 pub mod sheets;
 pub mod tables;
 
@@ -18,7 +19,7 @@ use std::path::Path;
 type Make = fn(u64) -> Vec<Case>;
 
 /// Each call by the name that its cases have, in the order in which they are run.
-pub const CALLS: [(&str, Make); 7] = [
+pub const CALLS: [(&str, Make); 8] = [
     ("read", reads::cases),
     ("table", tables::cases),
     ("list", lists::cases),
@@ -26,6 +27,7 @@ pub const CALLS: [(&str, Make); 7] = [
     ("description", descriptions::cases),
     ("sheet_write", sheets::write_cases),
     ("sheet_read", sheets::read_cases),
+    ("session", sessions::cases),
 ];
 
 /// What lent memory holds before a call.

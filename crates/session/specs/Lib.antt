@@ -1,0 +1,5 @@
+-- What the calls on a session, by value, promise.
+pub mod Changes
+pub mod Feeding
+pub mod Turning
+pub mod Giving
