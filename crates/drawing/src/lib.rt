@@ -1,5 +1,7 @@
 // The drawing layer: what a drawing is, its file, its table, and what each call answers. Its definitions and laws are in
 // specs/; here are the types of the answers that they speak of, and the names of numbers. Types that are `#[repr(C)]` go to programs in C as they are.
+#![tactic(auto)]
+
 pub mod head;
 pub mod letters;
 pub mod limits;

@@ -1,5 +1,7 @@
 // Made by tools/ways from crates/from_file_objects.
 // The layout in code, from a file's bytes to a table's words: paths, texts, bitmaps, texts along paths, and what ends every object.
+#![tactic(auto)]
+
 pub mod bitmap;
 pub mod end;
 pub mod leaf;

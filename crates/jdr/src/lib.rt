@@ -1,6 +1,8 @@
 // The calls of the library, for other programs: each with its contract, which decides its answer and all lent memory for every input. What each
 // promises stands in crates/promises/specs/Promises.antt, from top to bottom, and for those on a session in crates/pieces/specs/SessionPromises.antt. The numbers
 // of answers are 01's.
+#![tactic(auto)]
+
 ghost use Rattle.promises.specs.Promises.{Reads, Checks, Writes, WritesSheet, ReadsSheet, Lists, Paints, Texts, Descriptions, Extents};
 ghost use Rattle.std.specs.Prelude.{◌≡◌, length};
 ghost use Rattle.drawing.specs.Questions.{shown};

@@ -1,4 +1,6 @@
 // The lister: reads a drawing of at most 8,192 bytes on standard input and prints its table, or the refusal.
+#![tactic(auto)]
+
 ghost use Rattle.std.specs.Prelude.{◌+◌, ◌*◌, ◌≤◌};
 
 use libc::STDIN_FILENO;

@@ -1,4 +1,5 @@
 // A checking session (R-6): its struct, and the definitions and laws of units that come in pieces. No function.
+#![tactic(auto)]
 
 // What is left of the object that is open.
 #[derive(Drop)]

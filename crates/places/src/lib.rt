@@ -1,4 +1,6 @@
 // Where the parts of a body stand, in the words of a table.
+#![tactic(auto)]
+
 pub mod behind;
 pub mod end;
 

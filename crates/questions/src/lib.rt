@@ -1,4 +1,6 @@
 // Questions about a row's object, a paint, a text and its description; and which of two texts is to be shown.
+#![tactic(auto)]
+
 pub mod description;
 pub mod paint;
 pub mod paint_words;

@@ -1,5 +1,7 @@
 // Reading a file into lent memory, by two passes of one descent: the first, into no memory, judges and counts; the second stores, into memory that is
 // then known to be enough.
+#![tactic(auto)]
+
 pub mod file;
 pub mod head;
 pub mod objects;

@@ -1,6 +1,8 @@
 // Demand 2 of the calls themselves: what is read comes back when it is written, with each true flag made 1, what is written comes back when it is read, and a
 // table is checked with 0 exactly when some file gives it. And the text to show of a row, found by two calls. `sheets` has round trips of
 // sheets, `cuts` a file that is given to a session in pieces.
+#![tactic(auto)]
+
 ghost use Rattle.std.specs.Prelude.{◌≡◌, ◌+◌, ◌≤◌, length, take, drop};
 ghost use Rattle.round_trip.specs.RoundTrip.{FileComesBack, TableComesBack, Checked, ShowsText};
 

@@ -1,4 +1,6 @@
 // Rows of the contents, one an object, and how far a walk over rows and bodies has come.
+#![tactic(auto)]
+
 pub mod kind;
 pub mod look;
 pub mod store;

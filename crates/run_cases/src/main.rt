@@ -1,6 +1,8 @@
 // Runs the cases that data/cases.txt names, and prints a line for each: its name, and what its call answered, with hashes of the lent memory. A name
 // begins with the call's, as `read/0000`, and is that of the data file too. What is printed is held to the lines of `second`; its README says
 // what they hold, and what the data files hold.
+#![tactic(auto)]
+
 use check::same;
 use text_out::{Buffer, put, put_all};
 

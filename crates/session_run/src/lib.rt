@@ -1,4 +1,6 @@
 // A session, run over some bytes: a plan is judged part by part, and not stored (R-6).
+#![tactic(auto)]
+
 pub mod advance;
 pub mod field;
 pub mod parts;

@@ -1,2 +1,4 @@
 // The calls that check a table and write its file.
+#![tactic(auto)]
+
 pub mod answers;

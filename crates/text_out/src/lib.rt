@@ -1,5 +1,7 @@
 // Standard output gathered in a buffer, so that many short pieces are written by few calls. The buffer and how much of it
 // is used are the caller's: each call takes both, and answers how much is used after it, which is never more than there is.
+#![tactic(auto)]
+
 ghost use Rattle.std.specs.Prelude.{◌≡◌, ◌≤◌};
 
 use libc::STDOUT_FILENO;

@@ -1,4 +1,5 @@
 // How far a pass over the fields of a layout has come, and the laws of passes, for any way. No function.
+#![tactic(auto)]
 
 // The places in the source and in the target. Or a refusal: the place of the field at fault, so much further than any source reaches, and the number.
 #[derive(Drop)]
