@@ -11,7 +11,7 @@ pub mod sheet;
 
 // What a call gives back: 01's number, the offset, and the counts of rows and words.
 #[repr(C)]
-#[derive(Drop)]
+#[derive(Clone, Copy)]
 pub struct Answer {
     pub number: u32,
     pub offset: u32,
@@ -20,7 +20,7 @@ pub struct Answer {
 }
 
 // A plain paint with its components, in file order.
-#[derive(Drop)]
+#[derive(Clone, Copy)]
 pub enum Paint {
     Transparent,
     Rgb {
@@ -49,7 +49,7 @@ pub enum Paint {
 }
 
 // The answer of the paint question: a refusal's number, a plain paint, or a gradient of two plain paints with its integer.
-#[derive(Drop)]
+#[derive(Clone, Copy)]
 pub enum PaintAnswer {
     Refused(u32),
     Plain(Paint),
@@ -66,7 +66,7 @@ pub enum PaintAnswer {
 }
 
 // Which paint the paint question is about.
-#[derive(Drop)]
+#[derive(Clone, Copy)]
 pub enum Which {
     Line,
     Fill,
@@ -75,7 +75,7 @@ pub enum Which {
 
 // A run of words in the bodies.
 #[repr(C)]
-#[derive(Drop)]
+#[derive(Clone, Copy)]
 pub struct Span {
     pub start: u32,
     pub length: u32,
@@ -83,7 +83,7 @@ pub struct Span {
 
 // The answer of the text question: 01's number, and where the chars of the LaTeX alternative and of the text stand.
 #[repr(C)]
-#[derive(Drop)]
+#[derive(Clone, Copy)]
 pub struct TextAnswer {
     pub number: u32,
     pub alternative: Span,
@@ -92,7 +92,7 @@ pub struct TextAnswer {
 
 // The answer of the description question: the number, and where the description's chars stand.
 #[repr(C)]
-#[derive(Drop)]
+#[derive(Clone, Copy)]
 pub struct DescriptionAnswer {
     pub number: u32,
     pub chars: Span,
@@ -100,7 +100,7 @@ pub struct DescriptionAnswer {
 
 // The box around an outline: the least and the greatest coordinates.
 #[repr(C)]
-#[derive(Drop)]
+#[derive(Clone, Copy)]
 pub struct Extent {
     pub left: f64,
     pub bottom: f64,
@@ -110,7 +110,7 @@ pub struct Extent {
 
 // The answer of the question about an extent: the number, and the box.
 #[repr(C)]
-#[derive(Drop)]
+#[derive(Clone, Copy)]
 pub struct ExtentAnswer {
     pub number: u32,
     pub extent: Extent,

@@ -22,7 +22,7 @@ use crate::run::run;
 use drawing::limits::{LAST_SERIES, LAST_SHAPE};
 use ways::Pass;
 
-#[derive(Drop)]
+#[derive(Clone, Copy)]
 pub enum Group {
     // the letter of a plain paint, and so many components
     Color(usize),

@@ -15,7 +15,7 @@ mod paint;
 
 // A plain paint: 0 transparent, 1 RGB, 2 CMYK, 3 grey, 4 HSB, and its components.
 #[repr(C)]
-#[derive(Drop)]
+#[derive(Clone, Copy)]
 pub struct Color {
     pub kind: u32,
     pub components: [f32; 5],
@@ -23,7 +23,7 @@ pub struct Color {
 
 // A paint. `number`: 0, or the refusal's; `form`: 0 plain, 1 linear, 2 radial; `place`: the gradient's integer, else 0; and the one or two plain paints.
 #[repr(C)]
-#[derive(Drop)]
+#[derive(Clone, Copy)]
 pub struct GivenPaint {
     pub number: u32,
     pub form: u32,

@@ -2,7 +2,7 @@
 #![tactic(auto)]
 
 // What is left of the object that is open.
-#[derive(Drop)]
+#[derive(Clone, Copy)]
 pub struct Inside {
     // its parts, each a digit of base 25, the next one lowest
     pub parts: u64,
@@ -17,7 +17,7 @@ pub struct Inside {
 
 // What a session holds of a plan that comes in pieces, whatever its length. All are numbers, and any numbers are a session: a program in C may lend what it likes.
 #[repr(C)]
-#[derive(Drop)]
+#[derive(Clone, Copy)]
 pub struct Session {
     // 1 once a verdict was given
     pub spent: u32,

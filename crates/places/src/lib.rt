@@ -5,7 +5,7 @@ pub mod behind;
 pub mod end;
 
 // A part of a body that is passed to find what stands behind it.
-#[derive(Drop)]
+#[derive(Clone, Copy)]
 pub enum Part {
     // the count of a group's members
     Count,

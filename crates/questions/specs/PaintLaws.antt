@@ -96,8 +96,8 @@ plain-parts : (v : ℕ) (p : P.Plain) → (plain_parts v p).Good p → (words_of
 plain-parts v P.transparent good = (by (leb 4 v) refl, tt)
   where
     by : (t : Bool) → leb 4 v ≡ t → words_of (plain_parts v P.transparent) P.transparent ≡ []
-    by true e = rw (e, e)
-    by false e = rw (e, e)
+    by true e = rw e
+    by false e = rw e
 plain-parts v (P.rgb r g b a) good =
     let t = good.1 in (refl, (a_component t.0, (a_component t.1.0, (a_component t.1.1.0, (a_component t.1.1.1, tt)))))
 plain-parts v (P.cmyk c m y k a) good =

@@ -9,7 +9,7 @@ use places::Part;
 use places::behind::behind;
 use rows::look::{kind_in, start_in};
 
-#[derive(Drop)]
+#[derive(Clone, Copy)]
 pub struct TextPlaces {
     pub paint: usize,
     // the flag and the LaTeX fields

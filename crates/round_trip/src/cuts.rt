@@ -39,7 +39,7 @@ fn fresh() -> Session
 }
 
 // A session that was given the bytes of a file up to a place.
-#[derive(Drop)]
+#[derive(Clone, Copy)]
 pub struct Given {
     pub session: Session,
     pub at: usize,

@@ -12,7 +12,7 @@ pub mod cuts;
 pub mod sheets;
 
 // The answers of two calls, one after the other; the second is the first's where that refused.
-#[derive(Drop)]
+#[derive(Clone, Copy)]
 pub struct Both {
     pub first: Answer,
     pub second: Answer,

@@ -71,7 +71,7 @@ fn fed_alone(s: Session, src: &[u8]) -> Session
 }
 
 // What is held and so much of a piece as there is room for, so many bytes; and the session behind those of them that it came over.
-#[derive(Drop)]
+#[derive(Clone, Copy)]
 pub struct Tried {
     pub session: Session,
     pub at: usize,
@@ -100,7 +100,7 @@ fn run_joined(s: Session, bytes: &[u8]) -> Tried
 }
 
 // A session behind some bytes of a piece, or, at its end, what comes of it.
-#[derive(Drop)]
+#[derive(Clone, Copy)]
 pub struct Turn {
     pub session: Session,
     pub from: usize,

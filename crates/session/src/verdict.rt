@@ -10,7 +10,7 @@ use drawing::numbers::{ACCEPTED, CONTENTS_TOO_SHORT, CUT, TOO_LONG};
 use pieces::Session;
 
 // A session, and the answer of the call.
-#[derive(Drop)]
+#[derive(Clone, Copy)]
 pub struct Taken {
     pub session: Session,
     pub answer: Answer,

@@ -9,7 +9,7 @@ use drawing::numbers::CUT;
 use pieces::{Inside, Session};
 
 // A session behind a run, and how far that came.
-#[derive(Drop)]
+#[derive(Clone, Copy)]
 pub struct Fed {
     pub session: Session,
     pub at: usize,

@@ -19,7 +19,7 @@ use ways::{Pass, REFUSED};
 
 // Which part comes next: of the head, a group's count, or of objects (specs: Parts); how many groups are open, and the rows so far; and what is left of
 // the object that is open.
-#[derive(Drop)]
+#[derive(Clone, Copy)]
 pub struct Place {
     pub stage: u32,
     pub version: u32,
@@ -29,7 +29,7 @@ pub struct Place {
 }
 
 // A place, and how far the pass has come there.
-#[derive(Drop)]
+#[derive(Clone, Copy)]
 pub struct PlaceStep {
     pub place: Place,
     pub at: usize,

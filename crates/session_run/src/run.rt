@@ -9,7 +9,7 @@ use drawing::numbers::{ACCEPTED, TRAILING_BYTES};
 use ways::REFUSED;
 
 // The place before the part at which it ended, how far that is, and the number and the place of the field.
-#[derive(Drop)]
+#[derive(Clone, Copy)]
 pub struct Ran {
     pub place: Place,
     pub at: usize,

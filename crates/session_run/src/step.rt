@@ -23,7 +23,7 @@ use pieces::Inside;
 use ways::Pass;
 
 // What is left of an object, and how far the pass has come there.
-#[derive(Drop)]
+#[derive(Clone, Copy)]
 pub struct InsideStep {
     pub inside: Inside,
     pub at: usize,

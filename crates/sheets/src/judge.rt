@@ -12,7 +12,7 @@ use sheet_walk::file::walk_table;
 use ways::REFUSED;
 
 // Whether bytes are a sheet, and its counts.
-#[derive(Drop)]
+#[derive(Clone, Copy)]
 pub struct Judged {
     pub good: bool,
     pub rows: usize,

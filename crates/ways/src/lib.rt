@@ -2,7 +2,7 @@
 #![tactic(auto)]
 
 // The places in the source and in the target. Or a refusal: the place of the field at fault, so much further than any source reaches, and the number.
-#[derive(Drop)]
+#[derive(Clone, Copy)]
 pub struct Pass {
     pub at: usize,
     pub to: usize,
@@ -11,7 +11,7 @@ pub struct Pass {
 pub const REFUSED: usize = 1_073_741_824;
 
 // A field's value, 0 where there is none, and how far the pass has come behind it.
-#[derive(Drop)]
+#[derive(Clone, Copy)]
 pub struct FieldPass {
     pub value: u64,
     pub pass: Pass,

@@ -1,0 +1,14 @@
+use Rattle.format.specs.PackedLaws.{length-unpacked, unpacked-at}
+use mathlib.Core.Path.{sym, ◌∙◌}
+use native.Mathlib.Omega.{arith}
+use Rattle.sheet_rows.proofs.look.number_in.Goals as goal
+
+pub overflow_mul-place : goal.overflow_mul-place
+overflow_mul-place c = omega (arith, length-unpacked 2 c.args.contents.now, c.requires)
+
+pub char_at-requires : goal.char_at-requires
+char_at-requires c = omega (arith, length-unpacked 2 c.args.contents.now, c.requires)
+
+pub returns : goal.returns
+returns c =
+    c.char_at.ensures ∙ sym (unpacked-at 2 c.args.contents.now c.args.place (omega (arith, length-unpacked 2 c.args.contents.now, c.requires)))
