@@ -111,7 +111,7 @@ plain-parts v (P.grey g a) good = by (leb 4 v) refl
 plain-parts v (P.hsb h s b a) good = by (leb 4 v) refl
   where
     by : (t : Bool) → leb 4 v ≡ t → (words_of (plain_parts v (P.hsb h s b a)) (P.hsb h s b a) ≡ spelled (h ∷ s ∷ b ∷ a ∷ [])) × Components (h ∷ s ∷ b ∷ a ∷ [])
-    by true e = let t = (rw e at good).1 in (rw (e, e), (a_hue t.0, (a_component t.1.0, (a_component t.1.1.0, (a_component t.1.1.1, tt)))))
+    by true e = let t = (rw e at good).1 in (rw e, (a_hue t.0, (a_component t.1.0, (a_component t.1.1.0, (a_component t.1.1.1, tt)))))
     by false e = absurd (omega (arith, ap P.plain_letter (rw e at good).0))
 
 -- ---- the plain paint that stands here

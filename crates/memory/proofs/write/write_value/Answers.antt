@@ -6,7 +6,6 @@ use Rattle.memory.specs.SizeLaws.{field-size, field_eight}
 use Rattle.memory.specs.ValueLaws.{put_nowhere, put-here}
 use Rattle.memory.proofs.write.write_value.Goals as goal
 
-
 pub overflow_add-to : goal.overflow_add-to
 overflow_add-to c =
     let s = field-size c.args.size c.requires.1 in
