@@ -1,14 +1,13 @@
 -- A good object tells its id, and lists of objects are runs of objects.
 use Rattle.std.specs.Prelude.{◌≡◌, refl, Bool, true, false, cond, ◌&&◌, ◌||◌, ℕ, List, [], ◌∷◌, eqb, leb}
-use Rattle.std.proofs.Common.{sym, ap, ap₂, ◌∙◌, arith, eqb-true, ne_eqb}
+use Rattle.std.proofs.Common.{sym, ap, arith, eqb-true}
 use Prim.Native.Char.{code}
 use Rattle.format.specs.Kind.{Allowed}
 use Rattle.format.specs.Format.{Made}
 use Rattle.format.specs.Layout.{Layout}
 use Rattle.format.specs.AlternativeLaws.{chosen_tells}
-use Rattle.drawing.specs.Numbers.{bad_char}
 use Rattle.drawing.specs.Limits.{v1_5}
-use Rattle.drawing.specs.Fields.{unless, object_fault, object_id}
+use Rattle.drawing.specs.Fields.{object_fault, object_id}
 use Rattle.drawing.specs.String.{String}
 use Rattle.drawing.specs.Object.{Object, leaf, group, Objects, list_of, of_list}
 use Rattle.drawing.specs.ObjectId.{object_letter, leaf_of, group_of}
@@ -34,23 +33,6 @@ leaf_ids_lem v c = ap (λ t. eqb c (code "T") || (eqb c (code "I") || t)) (by (l
     by false true false = refl
     by false false true = refl
     by false false false = refl
-
--- A group's id is no leaf's.
-pub group_no_leaf : (v : ℕ) → is_leaf v (code "G") ≡ false
-group_no_leaf v = leaf_ids_lem v (code "G")
-
-pub text-path_fault : (v : ℕ) (deeper : Bool) → (object_id (is_leaf v) deeper).fault (code "X") ≡ unless (leb v1_5 v) bad_char
-text-path_fault v deeper = ap (λ t. object_fault t false deeper) (leaf_ids_lem v (code "X")) ∙ by (leb v1_5 v)
-  where
-    by : (on : Bool) → object_fault on false deeper ≡ unless on bad_char
-    by true = refl
-    by false = refl
-
-pub other_fault : (v : ℕ) (deeper : Bool) (c : ℕ) → (c ≡ code "I" → ⊥) → (c ≡ code "P" → ⊥) → (c ≡ code "T" → ⊥) → (c ≡ code "X" → ⊥) → (c ≡ code "G" → ⊥)
-    → (object_id (is_leaf v) deeper).fault c ≡ bad_char
-other_fault v deeper c i p t x g =
-    let none : leaf_ids (leb v1_5 v) c ≡ false = rw (ne_eqb c (code "T") t, ne_eqb c (code "I") i, ne_eqb c (code "P") p, ne_eqb c (code "X") x) refl in
-    ap₂ (λ l b. object_fault l b deeper) (leaf_ids_lem v c ∙ none) (ne_eqb c (code "G") g)
 
 -- What an allowed id says: it is a leaf's, or a group's where one may nest.
 id_of_leaf : (l g : Bool) → object_fault l g false ≡ 0 → l ≡ true

@@ -8,7 +8,7 @@ use Rattle.drawing.specs.Drawing.{Drawing}
 use Rattle.drawing.specs.TableDrawing.{drawing_of_table}
 use Rattle.drawing.specs.Questions.{refusal, part_of, paint_value, paint_given, paint_of}
 use Rattle.drawing.specs.Computed.{from_table}
-use Rattle.promises.specs.PromiseLaws.{of_table, given-paint}
+use Rattle.promises.proofs.PromiseLaws.{of_table, given-paint}
 use Rattle.jdr_c.specs.declared.GivenPaint.{GivenPaint}
 use Rattle.jdr_c.specs.PaintComputed.{paint_computed}
 use Rattle.jdr_c.specs.Values.{paint_struct, part_numbered, paint_numbered, PaintsForC}

@@ -16,7 +16,7 @@ use Rattle.drawing.specs.Settings.{settings}
 use Rattle.drawing.specs.Object.{Leaf, leaf, group, Objects, list_of}
 use Rattle.drawing.specs.ObjectId.{leaf_letter}
 use Rattle.drawing.specs.LeafLayout.{is_leaf, leaf_body, object_end}
-use Rattle.drawing.specs.ObjectLaws.{group_no_leaf}
+use Rattle.drawing.proofs.ObjectLaws.{group_no_leaf}
 use Rattle.drawing.specs.ObjectLayout.{object, group_body, leaf_object, group_object}
 use Rattle.drawing.specs.Drawing.{Drawing, file_of}
 

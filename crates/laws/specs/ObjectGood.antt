@@ -10,7 +10,7 @@ use Rattle.drawing.specs.String.{String}
 use Rattle.drawing.specs.Object.{Leaf, path, text, bitmap, text_path, leaf, group, Objects}
 use Rattle.drawing.specs.ObjectId.{leaf_letter}
 use Rattle.drawing.specs.LeafLayout.{path_case, other_cases, is_leaf, leaf_body}
-use Rattle.drawing.specs.ObjectLaws.{group_no_leaf}
+use Rattle.drawing.proofs.ObjectLaws.{group_no_leaf}
 use Rattle.drawing.specs.ObjectLayout.{object, group_body, leaf_object, group_object}
 
 -- A leaf's fields are good in this version.

@@ -17,7 +17,8 @@ use Rattle.drawing.specs.Fields.{member_count, object_fault, object_id}
 use Rattle.drawing.specs.String.{String}
 use Rattle.drawing.specs.Object.{Object, leaf, group, Objects, of_list, list_of}
 use Rattle.drawing.specs.ObjectId.{object_letter, leaf_of, group_of}
-use Rattle.drawing.specs.ObjectLaws.{list_of_list, leaf_tells, object_tells, group_no_leaf}
+use Rattle.drawing.specs.ObjectLaws.{list_of_list, leaf_tells, object_tells}
+use Rattle.drawing.proofs.ObjectLaws.{group_no_leaf}
 use Rattle.drawing.specs.LeafLayout.{is_leaf, leaf_body, object_end}
 use Rattle.drawing.specs.ObjectLayout.{object, leaf_object, group_object, group_body}
 use Rattle.laws.specs.CodecLaws.{bytes_sensible}

@@ -20,7 +20,8 @@ use Rattle.laws.specs.ObjectGood.{leaf_good, group_good}
 use Rattle.drawing.specs.Table as Table
 use Rattle.drawing.specs.Table.{words_of, leaf_kind, group_kind, group_own, group_words, rows, rows_all, bodies, bodies_all, row, kind_in, start_in, contents, contents_all}
 use Rattle.drawing.specs.TableDrawing.{Place, Walk, met, onward, provided, next_row, body, walk_many, walk_group, letter_of, walk_leaf, walk_kind, walk_object}
-use Rattle.drawing.specs.KindLaws.{kind_by_letter, leaf_kind_lem, letter_kind}
+use Rattle.drawing.specs.KindLaws.{kind_by_letter, leaf_kind_lem}
+use Rattle.drawing.proofs.KindLaws.{letter_kind}
 use Rattle.laws.specs.WalkLaws.{Holding, holding_onward, holding_provided, Over, over-both, over_below, RowMet, next_row_holds, BodyMet, body_holds, leaf_over, group_over}
 
 -- ---- what is walked over is a good drawing's table

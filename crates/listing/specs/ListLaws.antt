@@ -15,7 +15,7 @@ use Rattle.drawing.specs.Order.{entries}
 use Rattle.drawing.specs.Answers.{answer, rows_of, overwrite, listed}
 use Rattle.drawing.specs.Computed.{check_from, list_from, list_output}
 use Rattle.promises.specs.Promises.{Checks, Lists}
-use Rattle.promises.specs.PromiseLaws.{lists}
+use Rattle.promises.proofs.PromiseLaws.{lists}
 use Rattle.laws.specs.EntryLaws.{entries-length_le}
 use Rattle.laws.specs.TableLaws.{drawing-of_table}
 use Rattle.laws.specs.RowBodyLaws.{version_word}

@@ -12,7 +12,7 @@ use Rattle.drawing.specs.Settings.{settings}
 use Rattle.drawing.specs.Object.{Leaf, Object, leaf, group, Objects, none, more, list_of}
 use Rattle.drawing.specs.ObjectId.{leaf_letter}
 use Rattle.drawing.specs.LeafLayout.{leaf_body, object_end}
-use Rattle.drawing.specs.ObjectLaws.{group_no_leaf}
+use Rattle.drawing.proofs.ObjectLaws.{group_no_leaf}
 use Rattle.drawing.specs.ObjectLayout.{object, group_body, leaf_object, group_object}
 use Rattle.drawing.specs.Drawing.{Drawing, outer, outer_group, file}
 use Rattle.drawing.specs.Table.{words_of, group_words, rows, rows_all, bodies, bodies_all, head_words}

@@ -16,7 +16,6 @@ pub mod Verdict
 pub mod VerdictLaws
 pub mod Session
 pub mod SessionPromises
-pub mod SessionLaws
 pub mod EntryLaws
 pub mod Held
 pub mod HeldLaws

@@ -13,7 +13,7 @@ use Rattle.drawing.specs.Fields.{object_fault, object_id}
 use Rattle.drawing.specs.String.{String}
 use Rattle.drawing.specs.Object.{Leaf, leaf}
 use Rattle.drawing.specs.ObjectId.{leaf_letter}
-use Rattle.drawing.specs.ObjectLaws.{group_no_leaf}
+use Rattle.drawing.proofs.ObjectLaws.{group_no_leaf}
 use Rattle.drawing.specs.LeafLayout.{path_case, other_cases, is_leaf, leaf_body}
 use Rattle.drawing.specs.Table.{words_of, leaf_kind, leaf_words, row as rowWords}
 use Rattle.laws.specs.ParseLaws.{id_kind, object-refused, object_leaf, object_group}

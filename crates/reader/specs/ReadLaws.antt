@@ -18,7 +18,7 @@ use Rattle.drawing.specs.Computed.{read_from, read_result}
 use Rattle.laws.specs.OrderLaws.{contents-length}
 use Rattle.laws.specs.RoomLaws.{splice-first, lacks_rows, lacks_words, has_room}
 use Rattle.promises.specs.Promises.{Reads}
-use Rattle.promises.specs.PromiseLaws.{reads}
+use Rattle.promises.proofs.PromiseLaws.{reads}
 use Rattle.ways.specs.Passes as Passes
 use Rattle.ways.specs.Written.{Writes}
 use Rattle.rows.specs.declared.walked.Walked.{Walked}

@@ -16,7 +16,7 @@ use Rattle.drawing.specs.TableDrawing.{drawing_of_table}
 use Rattle.drawing.specs.Answers.{answer, rows_of, word_count, overwrite, ReadResult, Output}
 use Rattle.drawing.specs.Computed.{read_result, check_from, write_output}
 use Rattle.promises.specs.Promises.{Reads, Checks, Writes}
-use Rattle.promises.specs.PromiseLaws.{reads}
+use Rattle.promises.proofs.PromiseLaws.{reads}
 use Rattle.laws.specs.CodecLaws.{bytes_sensible}
 use Rattle.laws.specs.DrawingLaws.{own_file, file-length, file_unique}
 use Rattle.laws.specs.NormalFormLaws.{normal_form_is, normal_is}

@@ -11,7 +11,7 @@ use Rattle.drawing.specs.Sheet.{number_bytes, sheet_of, IsSheet}
 use Rattle.drawing.specs.Order.{entries}
 use Rattle.drawing.specs.Answers.{answer, rows_of, word_count, overwrite, ReadResult, Output, written}
 use Rattle.promises.specs.Promises.{WritesSheet, ReadsSheet, Listed, Lists, Demanded, demand3}
-use Rattle.promises.specs.PromiseLaws.{opened}
+use Rattle.promises.proofs.PromiseLaws.{opened}
 use Rattle.laws.specs.OrderLaws.{contents-length}
 use Rattle.laws.specs.AnswerLaws.{take-overwrite, written-zero}
 use Rattle.laws.specs.RoomLaws.{Stored, table_stored, has_room}

@@ -11,7 +11,7 @@ use Rattle.drawing.specs.Table.{start_in, contents_of, IsTable}
 use Rattle.drawing.specs.Order.{objects_of}
 use Rattle.drawing.specs.Questions.{part_at, or_refusal, leaf_part, wording, before_style, TextGiven, text_part, text_places, text_asked, alternative_of, CharsAt, shown}
 use Rattle.promises.specs.Promises.{by-drawing, Texts}
-use Rattle.promises.specs.PromiseLaws.{opened}
+use Rattle.promises.proofs.PromiseLaws.{opened}
 use Rattle.round_trip.specs.RoundTrip.{chars_shown, ShowsText}
 
 -- The chars of one of two runs are those of the one or of the other.

@@ -14,7 +14,7 @@ use Rattle.pieces.specs.Going.{room}
 use Rattle.pieces.specs.Parts.{head_on, rest}
 use Rattle.pieces.specs.Verdict.{verdict_of}
 use Rattle.pieces.specs.Session.{standing, held_bytes, verdict_now, Going, Faulty, Within, Stands}
-use Rattle.pieces.specs.SessionLaws.{stands_fit, stands_counts}
+use Rattle.pieces.proofs.SessionLaws.{stands_fit, stands_counts}
 use Rattle.pieces.specs.SessionPromises.{no_session, unfit, Pieces}
 use Rattle.session.specs.Changes.{with_bytes}
 use Rattle.session.specs.Feeding.{Able, Behind, Feeds, Tells}

@@ -18,7 +18,7 @@ use Rattle.drawing.specs.Settings.{absent_case, all_case, paper_case, settings}
 use Rattle.drawing.specs.SettingsLaws.{one_of_two, one_of_three}
 use Rattle.drawing.specs.Fields.{byte_in, flag, unless, object_fault, object_id, member_count, magic, version_length, version_chars, version_zero}
 use Rattle.drawing.specs.LeafLayout.{is_leaf}
-use Rattle.drawing.specs.ObjectLaws.{group_no_leaf}
+use Rattle.drawing.proofs.ObjectLaws.{group_no_leaf}
 use Rattle.ways.specs.declared.Pass.{Pass}
 use Rattle.ways.specs.declared.FieldPass.{FieldPass}
 use Rattle.ways.specs.Passes.{refused}

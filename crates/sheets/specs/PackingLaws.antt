@@ -26,7 +26,7 @@ use Rattle.laws.specs.SheetLaws.{rows_long, sheet-long}
 use Rattle.memory.specs.Runs.{Room, SmallWords}
 use Rattle.memory.specs.PackedRunLaws.{recoded-packed}
 use Rattle.promises.specs.Promises.{Checks, WritesSheet}
-use Rattle.promises.specs.PromiseLaws.{writes_sheet}
+use Rattle.promises.proofs.PromiseLaws.{writes_sheet}
 use Rattle.ways.specs.Written.{Writes, both-written, same-written}
 use Rattle.sheets.specs.Packing.{Tabled, sheet_in}
 

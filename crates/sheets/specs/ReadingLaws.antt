@@ -19,7 +19,7 @@ use Rattle.laws.specs.SheetLaws.{rows_long, counts, counts-long, cells, cells-lo
 use Rattle.memory.specs.Runs.{Room}
 use Rattle.memory.specs.PackedRunLaws.{recoded-unpacked}
 use Rattle.promises.specs.Promises.{ReadsSheet}
-use Rattle.promises.specs.PromiseLaws.{reads-sheet}
+use Rattle.promises.proofs.PromiseLaws.{reads-sheet}
 use Rattle.sheets.specs.Judging.{Counted}
 use Rattle.sheets.specs.Copying.{Copies}
 

@@ -12,7 +12,7 @@ use Rattle.drawing.specs.TableDrawing.{drawing_of_table}
 use Rattle.drawing.specs.Answers.{answer, rows_of, word_count, overwrite, table_refused, written}
 use Rattle.drawing.specs.Computed.{check_from, write_from, write_output}
 use Rattle.promises.specs.Promises.{Checks, Writes}
-use Rattle.promises.specs.PromiseLaws.{checks, writes}
+use Rattle.promises.proofs.PromiseLaws.{checks, writes}
 use Rattle.laws.specs.CountLaws.{file-counts, table_limits}
 use Rattle.laws.specs.TableLaws.{drawing-of_table}
 use Rattle.laws.specs.TableFileLaws.{refused_table}

@@ -16,7 +16,7 @@ use Rattle.drawing.specs.ObjectId.{leaf_letter}
 use Rattle.drawing.specs.LeafLayout.{path_case, other_cases, is_leaf, leaf_body}
 use Rattle.drawing.specs.ObjectLayout.{object}
 use Rattle.drawing.specs.Table.{kind_in, path_kind, bitmap_kind, text_path_kind}
-use Rattle.drawing.specs.KindLaws.{old_leaf, no_leaf}
+use Rattle.drawing.proofs.KindLaws.{old_leaf, no_leaf}
 use Rattle.drawing.specs.TableDrawing.{Place, Walk, met, lost, onward, provided, body, letter_of, walk_leaf}
 use Rattle.laws.specs.ObjectBytes.{bytes_of, leaf_bytes}
 use Rattle.laws.specs.WalkLaws.{Holding, BodyMet, body_holds}

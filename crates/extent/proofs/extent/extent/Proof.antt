@@ -6,7 +6,7 @@ use Rattle.format.specs.LeafLaws.{known_below}
 use Rattle.drawing.specs.Questions.{or_refusal, leaf_part}
 use Rattle.drawing.specs.Extent.{no_extent, extent_of, outline_in}
 use Rattle.drawing.specs.Computed.{extent_value}
-use Rattle.promises.specs.PromiseLaws.{extents}
+use Rattle.promises.proofs.PromiseLaws.{extents}
 use Rattle.questions.specs.RowQuestions.{no_table, no_such_row, asked, asked_part}
 use borrow.Author.Rules.{rules}
 use Rattle.extent.proofs.extent.extent.Statement.{statement}

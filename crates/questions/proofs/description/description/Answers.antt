@@ -4,7 +4,7 @@ use Rattle.drawing.specs.Questions.{part, no_description, description_part, desc
 use Rattle.drawing.specs.Table.{end_in}
 use Rattle.drawing.specs.Order.{description_of}
 use Rattle.format.specs.LeafLaws.{known_below}
-use Rattle.promises.specs.PromiseLaws.{descriptions}
+use Rattle.promises.proofs.PromiseLaws.{descriptions}
 use mir.Syntax.{w32}
 use mathlib.Core.Path.{sym, ap, ◌∙◌}
 use native.Mathlib.Omega.{arith}

@@ -2,7 +2,7 @@
 use Rattle.questions.specs.RowQuestions.{no_table_lem, no_such_row, asked, asked_part}
 use Rattle.drawing.specs.Questions.{paint_part, paint_value}
 use Rattle.format.specs.LeafLaws.{known_below}
-use Rattle.promises.specs.PromiseLaws.{paints}
+use Rattle.promises.proofs.PromiseLaws.{paints}
 use mir.Syntax.{w32}
 use mathlib.Core.Path.{refl, sym, ◌∙◌}
 use Rattle.drawing.specs.declared.PaintAnswer.TheVariants.{Refused}

@@ -4,7 +4,7 @@ use Rattle.drawing.specs.Questions.{or_refusal, no_text, text_part, text_places}
 use Rattle.drawing.specs.Computed.{text_value}
 use Rattle.drawing.specs.Table.{start_in}
 use Rattle.format.specs.LeafLaws.{known_below}
-use Rattle.promises.specs.PromiseLaws.{texts}
+use Rattle.promises.proofs.PromiseLaws.{texts}
 use mir.Syntax.{w32}
 use mathlib.Core.Path.{sym, ap, ◌∙◌}
 use native.Mathlib.Omega.{arith}

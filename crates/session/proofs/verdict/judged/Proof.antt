@@ -1,4 +1,4 @@
-use Rattle.pieces.specs.SessionLaws.{verdicts_refused, verdicts_given}
+use Rattle.pieces.proofs.SessionLaws.{verdicts_refused, verdicts_given}
 use mathlib.Core.Path.{◌≡◌, sym, ◌∙◌}
 use borrow.Author.Rules.{rules}
 use Rattle.session.proofs.verdict.judged.Statement.{statement}

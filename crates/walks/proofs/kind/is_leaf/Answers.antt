@@ -1,7 +1,7 @@
 -- `walks::kind::is_leaf` meets its contract.
 use mathlib.Core.Path.{sym}
 use native.Mathlib.Omega.{arith}
-use Rattle.drawing.specs.KindLaws.{text-path_leaf, no_leaf}
+use Rattle.drawing.proofs.KindLaws.{text-path_leaf, no_leaf}
 use Rattle.walks.specs.LeafWalkLaws.{from_paths}
 use Rattle.walks.proofs.kind.is_leaf.Goals as goal
 
