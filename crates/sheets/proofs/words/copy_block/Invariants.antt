@@ -1,0 +1,10 @@
+use Prim.Native.Nat.{◌^◌}
+use mathlib.Core.Path.{◌∙◌}
+use Rattle.memory.specs.StoreLaws.{Storing}
+use Rattle.sheets.proofs.words.copy_block.Given as goal
+
+abbrev pub invariant-loop-left : goal.invariant-loop-left
+invariant-loop-left l = Storing 256 (2 ^ 32) l.sheet l.initial.bodies l.from l.to 8 2 8 l.at l.place l.left l.bodies
+
+abbrev pub decreases-loop-left : goal.decreases-loop-left
+decreases-loop-left l = l.left
