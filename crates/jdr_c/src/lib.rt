@@ -1,5 +1,5 @@
 // The calls of `jdr` for programs in other languages, under names of C and with C's way of passing: a slice is a pointer and a length in elements, an
-// answer a struct by value. include/jdr.h declares them. Each has the contract of jdr's call (`jdr_paint` the same, said of a struct),
+// answer a struct by value. include/jdr.h declares them, and `jdr_export` exports each. Each has the contract of jdr's call (`jdr_paint` the same, said of a struct),
 // and asks nothing of its inputs but what C cannot say: that a run is aligned and as long as it is said to be, and that one lent for writing overlaps no other.
 #![tactic(auto)]
 
