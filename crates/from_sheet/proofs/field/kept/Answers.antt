@@ -1,0 +1,15 @@
+-- Made by tools/ways from crates/from_file.
+use mathlib.Core.Path.{refl}
+use native.Mathlib.Omega.{arith}
+use Rattle.from_sheet.proofs.field.kept.Goals as goal
+
+pub returns-then-fault-ne0 : goal.returns-then-fault-ne0
+returns-then-fault-ne0 c =
+    (record { good = λ e. absurd (c.if-fault-ne0.true e); bad = λ some. (refl, c.refused-stopped.ensures) }, omega arith, λ some. refl)
+
+pub put-requires : goal.put-requires
+put-requires c = (omega (arith, c.requires.2.to-small), c.requires.0, c.requires.3 c.if-fault-ne0.false)
+
+pub returns : goal.returns
+returns c =
+    (record { good = λ e. (c.put.ensures, rw c.step-behind.ensures); bad = λ some. absurd (omega (arith, some, c.if-fault-ne0.false)) }, omega arith, λ some. absurd (omega (arith, some, c.if-fault-ne0.false)))

@@ -1,0 +1,53 @@
+-- Made by tools/ways from crates/from_file.
+use Rattle.from_sheet.specs.Way.{way, units, units_below}
+use Rattle.ways.specs.declared.Pass.{Pass}
+use Rattle.ways.specs.Moves.{moved_none, moved_both, moved_ready}
+use Rattle.ways.specs.Way.{source_units}
+use Rattle.format.specs.LeafLaws.{field_below}
+use lib.ListN.{length}
+use native.Mathlib.Omega.{arith}
+use Prim.Native.Nat.{◌+◌, ◌-◌, ◌*◌, ◌≤◌}
+use mathlib.Core.Path.{◌≡◌, refl, ap, ◌∙◌}
+use Rattle.from_sheet.proofs.group.keep_points.Goals as goal
+
+pub loop-left-init : goal.loop-left-init
+loop-left-init c =
+    let none : 2 * (c.args.count - c.args.count) ≡ 0 = omega arith in
+    (rw none (moved_none way 8 (units c.args.src.now)), omega arith, refl)
+
+pub keep-x-requires : goal.keep-x-requires
+keep-x-requires c =
+    let done = c.loop-left.invariant.0 in
+    let n = 2 * (c.args.count - c.loop-left.left) in
+    let some : c.args.at + n * source_units way 8 ≤ length (units c.args.src.now) = omega (arith, c.requires.way_in_bounds) in
+    let at-is : c.loop-left.behind.at ≡ c.args.at + n * source_units way 8 = ap (λ (q : Pass). q.at) done.is in
+    let inside : c.loop-left.behind.at + source_units way 8 ≤ length (units c.args.src.now) = omega (arith, at-is, c.requires.way_in_bounds, c.loop-left.invariant.1, c.loop-left-test.true) in
+    record { begins = moved_ready 8 n c.requires.begins some (omega arith) (omega arith) done; size_value = (refl, inside, field_below way.source.base (units c.args.src.now) c.loop-left.behind.at (source_units way 8) inside (units_below c.args.src.now c.type_inv.src)) }
+
+pub keep-behind-requires : goal.keep-behind-requires
+keep-behind-requires c =
+    let done = moved_both way 8 (units c.args.src.now) c.loop-left.invariant.0 c.keep-x.ensures in
+    let n = 2 * (c.args.count - c.loop-left.left) + 1 in
+    let some : c.args.at + n * source_units way 8 ≤ length (units c.args.src.now) = omega (arith, c.requires.way_in_bounds, c.loop-left.invariant.1, c.loop-left-test.true) in
+    let at-is : c.keep-x.result.at ≡ c.args.at + n * source_units way 8 = ap (λ (q : Pass). q.at) done.is in
+    let inside : c.keep-x.result.at + source_units way 8 ≤ length (units c.args.src.now) = omega (arith, at-is, c.requires.way_in_bounds, c.loop-left.invariant.1, c.loop-left-test.true) in
+    record { begins = moved_ready 8 n c.requires.begins some (omega arith) (omega arith) done; size_value = (refl, inside, field_below way.source.base (units c.args.src.now) c.keep-x.result.at (source_units way 8) inside (units_below c.args.src.now c.type_inv.src)) }
+
+pub overflow_sub-left : goal.overflow_sub-left
+overflow_sub-left c = omega (arith, c.loop-left-test.true)
+
+pub loop-left-smaller : goal.loop-left-smaller
+loop-left-smaller c = omega (arith, c.loop-left-test.true)
+
+pub loop-left-preserved : goal.loop-left-preserved
+loop-left-preserved c =
+    let next : 2 * (c.args.count - c.loop-left.left) + 1 + 1 ≡ 2 * (c.args.count - (c.loop-left.left - 1)) = omega (arith, c.loop-left.invariant.1, c.loop-left-test.true) in
+    (rw (← next) (moved_both way 8 (units c.args.src.now) (moved_both way 8 (units c.args.src.now) c.loop-left.invariant.0 c.keep-x.ensures) c.keep-behind.ensures), omega (arith, c.loop-left.invariant.1), c.dst-in-loop-left-1.given ∙ c.dst-1.given ∙ c.loop-left.invariant.2)
+
+pub shape_of-dst : goal.shape_of-dst
+shape_of-dst c = c.loop-left.invariant.2
+
+pub returns : goal.returns
+returns c =
+    let all : 2 * (c.args.count - c.loop-left.left) ≡ 2 * c.args.count = omega (arith, c.loop-left-test.false) in
+    rw all at c.loop-left.invariant.0

@@ -1,0 +1,40 @@
+-- Made by tools/ways from crates/from_file.
+use Prim.Native.Nat.{◌+◌, ◌*◌, ◌≤◌, ◌<◌}
+use lib.ListN.{length}
+use native.Mathlib.Omega.{arith}
+use mathlib.Core.Path.{refl}
+use Rattle.ways.specs.StepLaws.{steps_small}
+use Rattle.ways.specs.RunLaws.{run-there, run-wide, run_missing}
+use Rattle.ways.specs.Way.{source_units}
+use Rattle.from_sheet.specs.Way.{way, units, units_below}
+use Rattle.from_sheet.proofs.run.chars.Goals as goal
+
+pub has_wide-requires : goal.has_wide-requires
+has_wide-requires c =
+    let inside : c.args.at + c.args.count * source_units way 2 ≤ length (units c.args.src.now) = omega (arith, c.there.ensures.yes c.if-there.true) in
+    (refl, inside, c.requires.begins.short)
+
+pub returns-then-has_wide : goal.returns-then-has_wide
+returns-then-has_wide c =
+    let inside : c.args.at + c.args.count * source_units way 2 ≤ length (units c.args.src.now) = omega (arith, c.there.ensures.yes c.if-there.true) in
+    rw c.refusal.ensures ((run-wide way {size = 2} c.args.count c.requires.begins (omega arith) inside (c.has_wide.ensures.one c.if-has_wide.true)).chars refl)
+
+pub copy_chars-requires : goal.copy_chars-requires
+copy_chars-requires c =
+    let inside : c.args.at + c.args.count * source_units way 2 ≤ length (units c.args.src.now) = omega (arith, c.there.ensures.yes c.if-there.true) in
+    (inside, c.has_wide.ensures.none c.if-has_wide.false (units_below c.args.src.now c.type_inv.src))
+
+pub step-requires : goal.step-requires
+step-requires c =
+    let inside : c.args.at + c.args.count * source_units way 2 ≤ length (units c.args.src.now) = omega (arith, c.there.ensures.yes c.if-there.true) in
+    (omega arith, steps_small 2 c.args.count c.requires.begins inside (omega arith) (omega arith))
+
+pub returns-then-there : goal.returns-then-there
+returns-then-there c =
+    let inside : c.args.at + c.args.count * source_units way 2 ≤ length (units c.args.src.now) = omega (arith, c.there.ensures.yes c.if-there.true) in
+    rw c.step.ensures ((run-there way {size = 2} c.args.count c.requires.begins (omega arith) (omega arith) inside (c.has_wide.ensures.none c.if-has_wide.false (units_below c.args.src.now c.type_inv.src)) c.copy_chars.ensures).chars refl)
+
+pub returns : goal.returns
+returns c =
+    let fewer : length (units c.args.src.now) < c.args.at + c.args.count * source_units way 2 = omega (arith, c.there.ensures.no c.if-there.false) in
+    (run_missing way {size = 2} c.args.count c.requires.begins (omega arith) (units_below c.args.src.now c.type_inv.src) fewer c.cut_run.ensures).chars refl

@@ -1,0 +1,10 @@
+-- Made by tools/ways from crates/from_file_styles.
+use borrow.Author.Tests.{lt-ltb, le-ltb}
+use Rattle.ways.specs.LayoutLaws.{laid, else, then, valued-laid, nothing-laid}
+use Rattle.from_sheet_styles.proofs.settings.portrait.Goals as goal
+
+pub returns-then-version-lt-V1_3 : goal.returns-then-version-lt-V1_3
+returns-then-version-lt-V1_3 c = laid (then (lt-ltb c.args.version 3 c.if-version-lt-V1_3.true) (valued-laid c.flag-told.ensures))
+
+pub returns : goal.returns
+returns c = laid (else (le-ltb c.args.version 3 c.if-version-lt-V1_3.false) (nothing-laid c.requires))

@@ -1,0 +1,14 @@
+-- Made by tools/ways from crates/from_file.
+use Rattle.ways.specs.Faults.{byte_ranged}
+use Rattle.drawing.specs.Fields as F
+use native.Mathlib.Omega.{arith}
+use mathlib.Core.Path.{refl}
+use Rattle.from_table.proofs.field.byte.Goals as goal
+
+pub ranged-requires : goal.ranged-requires
+ranged-requires c =
+    record { begins = c.requires.begins; size_value = (refl, omega arith, omega (arith, c.requires.high_bound), omega arith) }
+
+pub returns : goal.returns
+returns c =
+    c.ranged.ensures.asks (F.byte_in c.args.low c.args.high) (byte_ranged c.args.low c.args.high c.requires.high_bound)

@@ -1,0 +1,36 @@
+-- Made by tools/ways from crates/from_file.
+use mathlib.Core.Path.{refl, ap₂, ◌∙◌}
+use Prim.Native.Nat.{◌+◌, ◌-◌, ◌*◌, ◌/◌}
+use native.Mathlib.Omega.{arith}
+use lib.ListN.{length}
+use Rattle.memory.specs.SizeLaws.{run-size}
+use Rattle.ways.specs.Passes.{refusal_of}
+use Rattle.ways.specs.RunLaws.{fit_inside}
+use Rattle.from_table.specs.Way.{way, units}
+use Rattle.from_table.proofs.run.cut_run.Goals as goal
+
+pub returns-then-at-ge-REFUSED : goal.returns-then-at-ge-REFUSED
+returns-then-at-ge-REFUSED c = record { before = λ h. refl; now = λ h. absurd (omega (arith, h, c.if-at-ge-REFUSED.true)) }
+
+pub source_units-units-requires : goal.source_units-units-requires
+source_units-units-requires c = (run-size c.args.size c.requires.size_value).1
+
+pub overflow_sub-all : goal.overflow_sub-all
+overflow_sub-all c =
+    let inside = c.requires.begins.inside (omega (arith, c.if-at-ge-REFUSED.false)) in omega (arith, inside, c.source_length-all.ensures)
+
+pub overflow_mul-all : goal.overflow_mul-all
+overflow_mul-all c =
+    let inside = c.requires.begins.inside (omega (arith, c.if-at-ge-REFUSED.false)) in let fit = fit_inside c.source_length-all.result c.args.at c.source_units-units.result (omega (arith, inside, c.source_length-all.ensures)) in omega (arith, fit, c.requires.begins.short, c.source_length-all.ensures)
+
+pub overflow_add-at : goal.overflow_add-at
+overflow_add-at c =
+    let inside = c.requires.begins.inside (omega (arith, c.if-at-ge-REFUSED.false)) in let fit = fit_inside c.source_length-all.result c.args.at c.source_units-units.result (omega (arith, inside, c.source_length-all.ensures)) in omega (arith, fit, c.requires.begins.short, c.source_length-all.ensures)
+
+pub refusal-requires : goal.refusal-requires
+refusal-requires c =
+    let inside = c.requires.begins.inside (omega (arith, c.if-at-ge-REFUSED.false)) in let fit = fit_inside c.source_length-all.result c.args.at c.source_units-units.result (omega (arith, inside, c.source_length-all.ensures)) in omega (arith, fit, c.requires.begins.short, c.source_length-all.ensures)
+
+pub returns : goal.returns
+returns c =
+    record { before = λ h. absurd (omega (arith, h, c.if-at-ge-REFUSED.false)); now = λ h. c.refusal.ensures ∙ ap₂ (λ n w. refusal_of way 2 (c.args.at + (n - c.args.at) / w * w)) c.source_length-all.ensures c.source_units-units.ensures }

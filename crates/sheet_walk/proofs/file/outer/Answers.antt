@@ -1,0 +1,30 @@
+-- Made by tools/ways from crates/table_walk.
+-- `sheet_walk::file::outer` meets its contract.
+use mathlib.Core.Path.{refl, sym, ◌∙◌}
+use lib.ListN.{length}
+use borrow.Author.Tests.{leb-true, leb-false}
+use Rattle.walks.specs.WalkingLaws.{walks-lost}
+use Rattle.walks.specs.FileWalkLaws.{outer-short, outer_rows, outer-whole, outer_partly}
+use Rattle.from_sheet.specs.Way.{units}
+use Rattle.sheet_rows.specs.Cells.{cells}
+use Rattle.sheet_walk.proofs.file.outer.Goals as goal
+
+pub group-walked-requires : goal.group-walked-requires
+group-walked-requires c =
+    record { stands = c.requires; row_width_in_bounds = leb-true 4 (length (cells c.args.contents.now)) (sym c.has_row.ensures ∙ c.if-has_row.true) }
+
+pub is_whole-requires : goal.is_whole-requires
+is_whole-requires c =
+    outer_rows c.args.version (cells c.args.contents.now) (units c.args.words.now) c.args.at c.args.to (leb-true 4 (length (cells c.args.contents.now)) (sym c.has_row.ensures ∙ c.if-has_row.true)) c.group-walked.ensures
+
+pub returns-then-is_whole : goal.returns-then-is_whole
+returns-then-is_whole c =
+    outer-whole c.args.version (cells c.args.contents.now) (units c.args.words.now) c.args.at c.args.to (leb-true 4 (length (cells c.args.contents.now)) (sym c.has_row.ensures ∙ c.if-has_row.true)) c.group-walked.ensures (sym c.is_whole.ensures ∙ c.if-is_whole.true)
+
+pub returns-then-has_row : goal.returns-then-has_row
+returns-then-has_row c =
+    outer_partly c.args.version (cells c.args.contents.now) (units c.args.words.now) c.args.at c.args.to (leb-true 4 (length (cells c.args.contents.now)) (sym c.has_row.ensures ∙ c.if-has_row.true)) c.group-walked.ensures (sym c.is_whole.ensures ∙ c.if-is_whole.false) c.no_table.ensures
+
+pub returns : goal.returns
+returns c =
+    walks-lost (outer-short c.args.version (cells c.args.contents.now) (units c.args.words.now) c.args.at c.args.to (leb-false 4 (length (cells c.args.contents.now)) (sym c.has_row.ensures ∙ c.if-has_row.false))) c.no_table-2.ensures refl
