@@ -1,0 +1,8 @@
+use Rattle.session_run.specs.Wholes.{doubles-whole, any-double}
+use Rattle.ways.specs.LayoutLaws.{valued-laid}
+use Rattle.drawing.specs.Fields as F
+use Rattle.session_run.proofs.whole.doubles.Goals as goal
+
+pub returns : goal.returns
+returns c =
+    doubles-whole c.args.count c.requires.at_in_bounds.1 c.requires.at_in_bounds.2 c.requires.at_in_bounds.0 (valued-laid (c.run.ensures.values F.double any-double))
