@@ -9,7 +9,7 @@ use Rattle.drawing.specs.declared.PaintAnswer.TheVariants.{Refused}
 use Rattle.drawing.specs.Paint.{Paint}
 use Rattle.drawing.specs.Object.{Object}
 use Rattle.drawing.specs.Questions.{paint_value}
-use Rattle.questions.specs.RowQuestions.{no_table, no_such_row, asked, asked_part}
+use Rattle.questions.specs.RowQuestions.{no_table_lem, no_such_row, asked, asked_part}
 use Rattle.jdr_c.proofs.paint.no_part.Statement.{statement}
 use Rattle.jdr_c.proofs.paint.no_part.Tie as tie
 
@@ -20,7 +20,7 @@ returns : tie.Need-returns
 returns c =
     let at-check = c.before.before in
     let at-args = at-check.before.before.before in
-    sym (no_table (λ d. noPaint) (λ d. paint_value) (Refused 16) at-check.check.ensures at-args.args.row c.if1.true)
+    sym (no_table_lem (λ d. noPaint) (λ d. paint_value) (Refused 16) at-check.check.ensures at-args.args.row c.if1.true)
 
 returns-2 : tie.Need-returns-2
 returns-2 c =

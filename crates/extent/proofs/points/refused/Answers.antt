@@ -1,0 +1,8 @@
+-- `extent::points::refused` meets its contract.
+use mathlib.Core.Path.{refl}
+use lib.Ieee.{of_bits}
+use Rattle.extent.proofs.points.refused.Goals as goal
+
+pub returns : goal.returns
+unfolding of_bits
+returns c = refl
