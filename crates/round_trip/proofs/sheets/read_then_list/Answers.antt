@@ -1,0 +1,26 @@
+use Rattle.round_trip.specs.SheetTripLaws.{parts_fit, list_refused, listed}
+use native.Mathlib.Omega.{arith}
+use mathlib.Core.Path.{sym}
+use Prim.Native.Nat.{◌*◌}
+use lib.Seq.{length-take-le}
+use Rattle.round_trip.proofs.sheets.read_then_list.Goals as goal
+
+pub returns-then-read-ne0 : goal.returns-then-read-ne0
+returns-then-read-ne0 c = list_refused c.sheet_read-read.ensures c.if-read-ne0.true
+
+pub slice_bounds-list-end : goal.slice_bounds-list-end
+slice_bounds-list-end c = let fit = parts_fit c.sheet_read-read.ensures c.if-read-ne0.false in omega (arith, fit.0, c.contents-1.given)
+
+pub slice_bounds-list-end-2 : goal.slice_bounds-list-end-2
+slice_bounds-list-end-2 c =
+    let fit = parts_fit c.sheet_read-read.ensures c.if-read-ne0.false in sym (length-take-le (4 * c.sheet_read-read.result.rows) _ (omega (arith, fit.0, c.contents-1.given)))
+
+pub slice_bounds-list-end-3 : goal.slice_bounds-list-end-3
+slice_bounds-list-end-3 c = let fit = parts_fit c.sheet_read-read.ensures c.if-read-ne0.false in omega (arith, fit.1, c.bodies-1.given)
+
+pub slice_bounds-list-end-4 : goal.slice_bounds-list-end-4
+slice_bounds-list-end-4 c =
+    let fit = parts_fit c.sheet_read-read.ensures c.if-read-ne0.false in sym (length-take-le c.sheet_read-read.result.words _ (omega (arith, fit.1, c.bodies-1.given)))
+
+pub returns : goal.returns
+returns c = listed c.sheet_read-read.ensures c.if-read-ne0.false c.list-listed.ensures
