@@ -1,6 +1,6 @@
 -- The hash of words, each behind those before it.
 use Rattle.std.specs.Prelude.{◌≡◌, ℕ, ◌+◌, ◌*◌, ◌%◌, ◌<◌, ◌≤◌, List, [], ◌∷◌, length, drop, get_or}
-use Rattle.std.proofs.Common.{ap, ◌∙◌, add-one, drop_of_length-le, drop-cons}
+use Rattle.std.proofs.Common.{ap, add-one, drop_of_length-le, drop-cons}
 
 abbrev pub hash_with : ℕ → ℕ → ℕ
 hash_with sum word = (sum * 16777619 + word) % 4294967296

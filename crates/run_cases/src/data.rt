@@ -1,6 +1,21 @@
-// What is found in files: bytes that part them, words, runs of words, and chars.
-ghost use Rattle.std.specs.Prelude.{◌≡◌, ◌+◌, ◌≤◌, ◌<◌, length};
-ghost use Rattle.io.specs.Counts.{IsPrefixLen};
+// What is found in files: all their bytes, bytes that part them, words, runs of words, and chars.
+ghost use Rattle.std.specs.Prelude.{◌≡◌, ◌+◌, ◌≤◌, ◌<◌, length, take};
+
+use std::io::Read;
+
+// Reads until the room is full, the file ends or a read fails, and answers how many bytes it put at the start of the room.
+pub fn read_full<F: Read>(file: &mut F, room: &mut [u8]) -> usize
+    ensures { (result ≤ length room.new) × (result ≡ length (take result room.new)) }
+{
+    let mut done = 0;
+    while done < room.len() {
+        match file.read(&mut room[done..]) {
+            Ok(count) if count > 0 => done += count,
+            _ => break,
+        }
+    }
+    done
+}
 
 // The place of the first such byte from here on, or the end.
 pub fn find(bytes: &[u8], start: usize, wanted: u8) -> usize
@@ -19,7 +34,7 @@ pub fn find(bytes: &[u8], start: usize, wanted: u8) -> usize
 
 // The words of a file, as many as there is room for, and how many they are.
 pub fn get_words(file: &[u8], words: &mut [u32]) -> usize
-    ensures { IsPrefixLen result words.new }
+    ensures { (result ≤ length words.new) × (result ≡ length (take result words.new)) }
 {
     let count = least(file.len() / 4, words.len());
     let mut i = 0;
@@ -68,7 +83,7 @@ pub fn end_of_run(start: usize, count: u32, all: usize) -> usize
 
 // The chars of words, as many as there is room for, and how many they are.
 pub fn get_chars(words: &[u32], chars: &mut [u16]) -> usize
-    ensures { IsPrefixLen result chars.new }
+    ensures { (result ≤ length chars.new) × (result ≡ length (take result chars.new)) }
 {
     let count = least(words.len(), chars.len());
     let mut i = 0;

@@ -2,6 +2,7 @@
 ghost use Rattle.std.specs.Prelude.{◌≡◌, ◌≤◌, ◌-◌};
 
 use drawing::Answer;
+use std::io::Stdout;
 use text_out::{Buffer, put, put_all, put_next};
 
 // What lent words hold before a call, and lent bytes.
@@ -17,24 +18,24 @@ pub struct Group {
 }
 
 // A group begins with what parts it from what is before it.
-pub fn put_answer(buffer: &mut Buffer, used: usize, answer: Answer) -> usize
+pub fn put_answer(out: Stdout, buffer: &mut Buffer, used: usize, answer: Answer) -> usize
     ensures { result ≤ 4096 }
 {
-    let used = put_all(buffer, used, b" ;");
-    let used = put_next(buffer, used, answer.number);
-    let used = put_next(buffer, used, answer.offset);
-    let used = put_next(buffer, used, answer.rows);
-    put_next(buffer, used, answer.words)
+    let used = put_all(out, buffer, used, b" ;");
+    let used = put_next(out, buffer, used, answer.number);
+    let used = put_next(out, buffer, used, answer.offset);
+    let used = put_next(out, buffer, used, answer.rows);
+    put_next(out, buffer, used, answer.words)
 }
 
 // A space and eight digits.
-pub fn put_hash(buffer: &mut Buffer, used: usize, hash: u32) -> usize
+pub fn put_hash(out: Stdout, buffer: &mut Buffer, used: usize, hash: u32) -> usize
     ensures { result ≤ 4096 }
 {
-    let used = put(buffer, used, b' ');
-    let mut digits = [0u8; 16];
-    let count = io::hex(hash as u64, 8, &mut digits);
-    put_all(buffer, used, &digits[..count])
+    let used = put(out, buffer, used, b' ');
+    let mut digits = [0u8; 8];
+    hex::encode_to_slice(hash.to_be_bytes(), &mut digits).unwrap();
+    put_all(out, buffer, used, &digits)
 }
 
 // One less, for a room that is just too short.

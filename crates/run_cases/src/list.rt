@@ -4,9 +4,11 @@ ghost use Rattle.std.specs.Prelude.{◌≤◌};
 use crate::data::{get_chars, least};
 use crate::group::{FILL, Group, put_answer, put_hash};
 use crate::{hash, questions};
+use std::io::Stdout;
 use text_out::Buffer;
 
 pub fn put_groups(
+    out: Stdout,
     buffer: &mut Buffer,
     used: usize,
     contents: &[u32],
@@ -17,12 +19,13 @@ pub fn put_groups(
 {
     let mut chars = [0u16; 64];
     let count = get_chars(label, &mut chars);
-    let used = put_lists(buffer, used, contents, bodies, &chars[..count]);
-    questions::put_rows(buffer, used, contents, bodies)
+    let used = put_lists(out, buffer, used, contents, bodies, &chars[..count]);
+    questions::put_rows(out, buffer, used, contents, bodies)
 }
 
 // The list with a large room; and for a table that is listed, with room for the entries, and with one less.
 fn put_lists(
+    out: Stdout,
     buffer: &mut Buffer,
     used: usize,
     contents: &[u32],
@@ -31,22 +34,23 @@ fn put_lists(
 ) -> usize
     ensures { result ≤ 4096 }
 {
-    let first = put_group(buffer, used, contents, bodies, label, 9400);
+    let first = put_group(out, buffer, used, contents, bodies, label, 9400);
     let answer = first.answer;
     if answer.number != 0 {
         return first.used;
     }
     let count = answer.rows as usize;
-    let tight = put_group(buffer, first.used, contents, bodies, label, count);
+    let tight = put_group(out, buffer, first.used, contents, bodies, label, count);
     if count == 0 {
         return tight.used;
     }
-    let short = put_group(buffer, tight.used, contents, bodies, label, count - 1);
+    let short = put_group(out, buffer, tight.used, contents, bodies, label, count - 1);
     short.used
 }
 
 // One call with room for so many entries.
 fn put_group(
+    out: Stdout,
     buffer: &mut Buffer,
     used: usize,
     contents: &[u32],
@@ -58,10 +62,19 @@ fn put_group(
 {
     let mut entries = [FILL; 9400];
     let end = least(room, 9400);
-    put_call(buffer, used, contents, bodies, label, &mut entries[0..end])
+    put_call(
+        out,
+        buffer,
+        used,
+        contents,
+        bodies,
+        label,
+        &mut entries[0..end],
+    )
 }
 
 fn put_call(
+    out: Stdout,
     buffer: &mut Buffer,
     used: usize,
     contents: &[u32],
@@ -72,7 +85,7 @@ fn put_call(
     ensures { result.used ≤ 4096 }
 {
     let answer = jdr::list(contents, bodies, label, entries);
-    let used = put_answer(buffer, used, answer);
-    let used = put_hash(buffer, used, hash::of_words(entries));
+    let used = put_answer(out, buffer, used, answer);
+    let used = put_hash(out, buffer, used, hash::of_words(entries));
     Group { answer, used }
 }

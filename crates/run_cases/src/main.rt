@@ -3,7 +3,10 @@
 // what they hold, and what the data files hold.
 #![tactic(auto)]
 
-use check::same;
+ghost use Rattle.std.specs.Prelude.{◌≡◌, ◌≤◌, length, take};
+
+use std::fs::{File, Files};
+use std::io::{Read, Stdout};
 use text_out::{Buffer, put, put_all};
 
 mod data;
@@ -18,22 +21,32 @@ mod sessions;
 mod sheet;
 mod table;
 
-fn main() {
+fn main(rt: HostRuntime) {
     let mut list = [0u8; 131072];
-    let fd = os::open_read(b"cases.txt");
-    let length = io::read_full(fd, &mut list);
-    let mut buffer = io::buffer();
-    let used = put_cases(&mut buffer, &list[..length]);
-    text_out::flush(&buffer, used);
+    let length = read_list(&rt, &mut list);
+    let out = rt.stdout();
+    let mut buffer = [0u8; 4096];
+    let used = put_cases(&rt, out, &mut buffer, &list[..length]);
+    text_out::flush(out, &buffer, used);
+}
+
+// No list is an empty one.
+fn read_list<R: Files>(files: &R, list: &mut [u8]) -> usize
+    ensures { (result ≤ length list.new) × (result ≡ length (take result list.new)) }
+{
+    match File::open(files, "cases.txt") {
+        Ok(mut file) => data::read_full(&mut file, list),
+        Err(_) => 0,
+    }
 }
 
 // A line of the list is a case's name, a space, and what the case is.
-fn put_cases(buffer: &mut Buffer, list: &[u8]) -> usize {
+fn put_cases<R: Files>(files: &R, out: Stdout, buffer: &mut Buffer, list: &[u8]) -> usize {
     let mut used = 0;
     let mut at = 0;
     while at < list.len() {
         let end = data::find(list, at, b' ');
-        used = put_case(buffer, used, &list[at..end]);
+        used = put_case(files, out, buffer, used, &list[at..end]);
         at = data::find(list, end, b'\n');
         if at < list.len() {
             at += 1;
@@ -42,53 +55,79 @@ fn put_cases(buffer: &mut Buffer, list: &[u8]) -> usize {
     used
 }
 
-fn put_case(buffer: &mut Buffer, used: usize, name: &[u8]) -> usize {
-    let fd = os::open_read(name);
-    let used = put_all(buffer, used, name);
-    if fd < 0 {
-        return put_all(buffer, used, b" does not open\n");
+fn put_case<R: Files>(
+    files: &R,
+    out: Stdout,
+    buffer: &mut Buffer,
+    used: usize,
+    name: &[u8],
+) -> usize {
+    let used = put_all(out, buffer, used, name);
+    match open(files, name) {
+        Some(mut file) => {
+            let used = put_file(out, buffer, used, name, &mut file);
+            put(out, buffer, used, b'\n')
+        }
+        None => put_all(out, buffer, used, b" does not open\n"),
     }
-    let used = put_file(buffer, used, name, fd);
-    libc::close(fd);
-    put(buffer, used, b'\n')
+}
+
+// The names of files are UTF-8 text.
+fn open<R: Files>(files: &R, name: &[u8]) -> Option<R::File> {
+    let path = str::from_utf8(name).ok()?;
+    File::open(files, path).ok()
 }
 
 // The room holds two counts, any table that the reader fills, and a label.
-fn put_file(buffer: &mut Buffer, used: usize, name: &[u8], fd: i32) -> usize {
+fn put_file<F: Read>(
+    out: Stdout,
+    buffer: &mut Buffer,
+    used: usize,
+    name: &[u8],
+    file: &mut F,
+) -> usize {
     let mut room = [0u8; 416000];
-    put_read(buffer, used, name, fd, &mut room)
+    put_read(out, buffer, used, name, file, &mut room)
 }
 
-fn put_read(buffer: &mut Buffer, used: usize, name: &[u8], fd: i32, room: &mut [u8]) -> usize {
-    let length = io::read_full(fd, room);
+fn put_read<F: Read>(
+    out: Stdout,
+    buffer: &mut Buffer,
+    used: usize,
+    name: &[u8],
+    file: &mut F,
+    room: &mut [u8],
+) -> usize {
+    let length = data::read_full(file, room);
     let call = data::find(name, 0, b'/');
-    put_call(buffer, used, &name[0..call], &room[0..length])
+    put_call(out, buffer, used, &name[0..call], &room[0..length])
 }
 
 // The calls that take bytes, and those of a session; all others take a table.
-fn put_call(buffer: &mut Buffer, used: usize, call: &[u8], file: &[u8]) -> usize {
-    if same(call, b"read") {
-        return read::put_groups(buffer, used, false, file);
+fn put_call(out: Stdout, buffer: &mut Buffer, used: usize, call: &[u8], file: &[u8]) -> usize {
+    if call == b"read".as_slice() {
+        return read::put_groups(out, buffer, used, false, file);
     }
-    if same(call, b"sheet_read") {
-        return read::put_groups(buffer, used, true, file);
+    if call == b"sheet_read".as_slice() {
+        return read::put_groups(out, buffer, used, true, file);
     }
     let mut words = [0u32; 104000];
     let count = data::get_words(file, &mut words);
-    if same(call, b"session") {
-        return sessions::put_groups(buffer, used, &words[..count], file);
+    if call == b"session".as_slice() {
+        return sessions::put_groups(out, buffer, used, &words[..count], file);
     }
-    put_table(buffer, used, call, &words[..count])
+    put_table(out, buffer, used, call, &words[..count])
 }
 
 // The words of a table's file are the numbers of contents words and bodies words, the contents, the bodies, and what else the call takes.
-fn put_table(buffer: &mut Buffer, used: usize, call: &[u8], words: &[u32]) -> usize {
+fn put_table(out: Stdout, buffer: &mut Buffer, used: usize, call: &[u8], words: &[u32]) -> usize {
     if words.len() < 2 {
-        return put_all(buffer, used, b" has no table");
+        return put_all(out, buffer, used, b" has no table");
     }
     let bodies = data::end_of_run(2, words[0], words.len());
     let rest = data::end_of_run(bodies, words[1], words.len());
     put_table_call(
+        out,
         buffer,
         used,
         call,
@@ -99,6 +138,7 @@ fn put_table(buffer: &mut Buffer, used: usize, call: &[u8], words: &[u32]) -> us
 }
 
 fn put_table_call(
+    out: Stdout,
     buffer: &mut Buffer,
     used: usize,
     call: &[u8],
@@ -106,20 +146,20 @@ fn put_table_call(
     bodies: &[u32],
     rest: &[u32],
 ) -> usize {
-    if same(call, b"table") {
-        return table::put_groups(buffer, used, contents, bodies);
+    if call == b"table".as_slice() {
+        return table::put_groups(out, buffer, used, contents, bodies);
     }
-    if same(call, b"sheet_write") {
-        return sheet::put_groups(buffer, used, contents, bodies);
+    if call == b"sheet_write".as_slice() {
+        return sheet::put_groups(out, buffer, used, contents, bodies);
     }
-    if same(call, b"list") {
-        return list::put_groups(buffer, used, contents, bodies, rest);
+    if call == b"list".as_slice() {
+        return list::put_groups(out, buffer, used, contents, bodies, rest);
     }
-    if same(call, b"box") {
-        return extent::put_groups(buffer, used, contents, bodies, rest);
+    if call == b"box".as_slice() {
+        return extent::put_groups(out, buffer, used, contents, bodies, rest);
     }
-    if same(call, b"description") {
-        return description::put_groups(buffer, used, contents, bodies, rest);
+    if call == b"description".as_slice() {
+        return description::put_groups(out, buffer, used, contents, bodies, rest);
     }
-    put_all(buffer, used, b" is a case of no call")
+    put_all(out, buffer, used, b" is a case of no call")
 }

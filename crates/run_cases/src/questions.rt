@@ -5,17 +5,24 @@ use crate::group::put_hash;
 use crate::hash;
 use drawing::{Answer, Span, TextAnswer};
 use jdr_c::{Color, GivenPaint};
+use std::io::Stdout;
 use text_out::{Buffer, put, put_all, put_next, within};
 
 // The questions about each row of a table and one row more, about 41 rows at most.
-pub fn put_rows(buffer: &mut Buffer, used: usize, contents: &[u32], bodies: &[u32]) -> usize
+pub fn put_rows(
+    out: Stdout,
+    buffer: &mut Buffer,
+    used: usize,
+    contents: &[u32],
+    bodies: &[u32],
+) -> usize
     ensures { result ≤ 4096 }
 {
     let rows = rows_asked(jdr::check(contents, bodies));
     let mut at = within(used);
     let mut row = 0;
     while row < rows {
-        at = put_row(buffer, at, contents, bodies, row);
+        at = put_row(out, buffer, at, contents, bodies, row);
         row += 1;
     }
     at
@@ -32,23 +39,30 @@ fn rows_asked(checked: Answer) -> u32 {
 }
 
 // The numbers of the paint question for every part, one that no object has among them, and of the text question; the hash of all that they answer.
-fn put_row(buffer: &mut Buffer, used: usize, contents: &[u32], bodies: &[u32], row: u32) -> usize
+fn put_row(
+    out: Stdout,
+    buffer: &mut Buffer,
+    used: usize,
+    contents: &[u32],
+    bodies: &[u32],
+    row: u32,
+) -> usize
     ensures { result ≤ 4096 }
 {
-    let used = put_all(buffer, used, b" ;");
-    let used = put_next(buffer, used, row);
-    let mut at = put(buffer, used, b':');
+    let used = put_all(out, buffer, used, b" ;");
+    let used = put_next(out, buffer, used, row);
+    let mut at = put(out, buffer, used, b':');
     let mut sum = hash::NONE;
     let mut which = 0;
     while which < 4 {
         let paint = jdr_c::jdr_paint(contents, bodies, row, which);
-        at = put_next(buffer, at, paint.number);
+        at = put_next(out, buffer, at, paint.number);
         sum = with_paint(sum, paint);
         which += 1;
     }
     let text = jdr::text(contents, bodies, row);
-    let at = put_next(buffer, at, text.number);
-    put_hash(buffer, at, with_text(sum, text))
+    let at = put_next(out, buffer, at, text.number);
+    put_hash(out, buffer, at, with_text(sum, text))
 }
 
 // The words of C's structs in their order, floats as their bits.

@@ -9,19 +9,27 @@ use drawing::Answer;
 use jdr::Session;
 use session::piece::pieced;
 use session::verdict::{Taken, judged, opened};
+use std::io::Stdout;
 use text_out::{Buffer, put_all, put_next};
 
 const NO_SESSION: u32 = 22;
 
-pub fn put_groups(buffer: &mut Buffer, used: usize, words: &[u32], data: &[u8]) -> usize
+pub fn put_groups(
+    out: Stdout,
+    buffer: &mut Buffer,
+    used: usize,
+    words: &[u32],
+    data: &[u8],
+) -> usize
     ensures { result ≤ 4096 }
 {
     if words.len() < 4 {
-        return put_all(buffer, used, b" has no session");
+        return put_all(out, buffer, used, b" has no session");
     }
     let cuts = end_of_run(4, words[3], words.len());
     let file = file_start(words[3], data.len());
     put_sessions(
+        out,
         buffer,
         used,
         made_up(words[0], words[1]),
@@ -48,6 +56,7 @@ struct Given {
 // The file in pieces; then what comes behind a verdict. The session opened again, with the verdict in the middle of the file. At last the made-up session itself.
 // The calls are made by value, as those on a session that is lent make them.
 fn put_sessions(
+    out: Stdout,
     buffer: &mut Buffer,
     used: usize,
     lent: Session,
@@ -59,16 +68,17 @@ fn put_sessions(
 {
     let first = open_and_give(lent, cuts, file);
     let whole = first.session;
-    let used = put_verdict(buffer, used, whole, first.sum);
+    let used = put_verdict(out, buffer, used, whole, first.sum);
     let spent = after_verdict(whole);
-    let used = put_spent(buffer, used, spent, cuts, file);
-    let used = put_half(buffer, used, spent, middle, cuts, file);
-    let used = put_made_up(buffer, used, lent, pieced(lent, file));
-    put_made_up(buffer, used, lent, judged(lent))
+    let used = put_spent(out, buffer, used, spent, cuts, file);
+    let used = put_half(out, buffer, used, spent, middle, cuts, file);
+    let used = put_made_up(out, buffer, used, lent, pieced(lent, file));
+    put_made_up(out, buffer, used, lent, judged(lent))
 }
 
 // A spent session is opened again, with the verdict in the middle of the file.
 fn put_half(
+    out: Stdout,
     buffer: &mut Buffer,
     used: usize,
     spent: Session,
@@ -83,8 +93,8 @@ fn put_half(
     let back = &file[half..];
     let given = open_and_give(spent, cuts, front);
     let begun = given.session;
-    let used = put_verdict(buffer, used, begun, given.sum);
-    put_spent(buffer, used, after_verdict(begun), cuts, back)
+    let used = put_verdict(out, buffer, used, begun, given.sum);
+    put_spent(out, buffer, used, after_verdict(begun), cuts, back)
 }
 
 // A session that is opened, whatever it holds, and given a file.
@@ -102,22 +112,29 @@ fn after_verdict(session: Session) -> Session {
 }
 
 // A session that is spent: the verdict behind more pieces, and 1 if they left it as it was.
-fn put_spent(buffer: &mut Buffer, used: usize, spent: Session, cuts: &[u32], file: &[u8]) -> usize
+fn put_spent(
+    out: Stdout,
+    buffer: &mut Buffer,
+    used: usize,
+    spent: Session,
+    cuts: &[u32],
+    file: &[u8],
+) -> usize
     ensures { result ≤ 4096 }
 {
     let given = give(spent, hash::NONE, cuts, file);
     let after = given.session;
-    let used = put_verdict(buffer, used, after, given.sum);
-    put_next(buffer, used, is_same(holds(spent), holds(after)))
+    let used = put_verdict(out, buffer, used, after, given.sum);
+    put_next(out, buffer, used, is_same(holds(spent), holds(after)))
 }
 
-fn put_verdict(buffer: &mut Buffer, used: usize, session: Session, sum: u32) -> usize
+fn put_verdict(out: Stdout, buffer: &mut Buffer, used: usize, session: Session, sum: u32) -> usize
     ensures { result ≤ 4096 }
 {
     let taken = judged(session);
     let answer = taken.answer;
-    let used = put_answer(buffer, used, answer);
-    put_hash(buffer, used, sum)
+    let used = put_answer(out, buffer, used, answer);
+    put_hash(out, buffer, used, sum)
 }
 
 // The pieces of the file between the cuts: the hash of what they answer, and of what is before them.
@@ -161,16 +178,22 @@ fn cut_at(start: usize, cut: u32, all: usize) -> usize
 
 // A session that opening did not begin, and what a call made of it. Where it was refused: the answer, and 1 if the session is as it was. Nothing else is
 // promised of it.
-fn put_made_up(buffer: &mut Buffer, used: usize, before: Session, taken: Taken) -> usize
+fn put_made_up(
+    out: Stdout,
+    buffer: &mut Buffer,
+    used: usize,
+    before: Session,
+    taken: Taken,
+) -> usize
     ensures { result ≤ 4096 }
 {
     let answer = taken.answer;
     let after = taken.session;
     if answer.number != NO_SESSION {
-        return put_all(buffer, used, b" ; -");
+        return put_all(out, buffer, used, b" ; -");
     }
-    let used = put_answer(buffer, used, answer);
-    put_next(buffer, used, is_same(holds(before), holds(after)))
+    let used = put_answer(out, buffer, used, answer);
+    put_next(out, buffer, used, is_same(holds(before), holds(after)))
 }
 
 fn is_same(one: u32, other: u32) -> u32 {

@@ -1,23 +1,25 @@
 // Standard output gathered in a buffer, so that many short pieces are written by few calls. The buffer and how much of it
 // is used are the caller's: each call takes both, and answers how much is used after it, which is never more than there is.
+// What a call writes out goes to the standard output that it is given. A write that fails is let go, and what it was to write
+// is lost.
 #![tactic(auto)]
 
 ghost use Rattle.std.specs.Prelude.{◌≡◌, ◌≤◌};
 
-use libc::STDOUT_FILENO;
+use std::io::{Print, Stdout};
 
-// As many bytes as `io::buffer` gives.
+// 4,096 bytes, as many as are written at once.
 pub type Buffer = [u8; 4096];
 
 // A full buffer is written out and begins again.
-pub fn put(buffer: &mut Buffer, used: usize, byte: u8) -> usize
+pub fn put(out: Stdout, buffer: &mut Buffer, used: usize, byte: u8) -> usize
     ensures { result ≤ 4096 }
 {
     if used < 4096 {
         buffer[used] = byte;
         return used + 1;
     }
-    let begun = flush(buffer, used);
+    let begun = flush(out, buffer, used);
     buffer[begun] = byte;
     begun + 1
 }
@@ -32,39 +34,38 @@ pub fn within(used: usize) -> usize
     used
 }
 
-pub fn put_all(buffer: &mut Buffer, used: usize, bytes: &[u8]) -> usize
+pub fn put_all(out: Stdout, buffer: &mut Buffer, used: usize, bytes: &[u8]) -> usize
     ensures { result ≤ 4096 }
 {
     let mut at = within(used);
     let mut i = 0;
     while i < bytes.len() {
-        at = put(buffer, at, bytes[i]);
+        at = put(out, buffer, at, bytes[i]);
         i += 1;
     }
     at
 }
 
-pub fn put_decimal(buffer: &mut Buffer, used: usize, number: u32) -> usize
+pub fn put_decimal(out: Stdout, buffer: &mut Buffer, used: usize, number: u32) -> usize
     ensures { result ≤ 4096 }
 {
-    let mut digits = [0u8; 20];
-    let count = io::decimal(number as u64, &mut digits);
-    put_all(buffer, used, &digits[..count])
+    let mut digits = itoa::Buffer::new();
+    put_all(out, buffer, used, digits.format(number).as_bytes())
 }
 
 // A space and a number.
-pub fn put_next(buffer: &mut Buffer, used: usize, number: u32) -> usize
+pub fn put_next(out: Stdout, buffer: &mut Buffer, used: usize, number: u32) -> usize
     ensures { result ≤ 4096 }
 {
-    let used = put(buffer, used, b' ');
-    put_decimal(buffer, used, number)
+    let used = put(out, buffer, used, b' ');
+    put_decimal(out, buffer, used, number)
 }
 
 // Writes out what is in the buffer. Nothing of it is used after that.
-pub fn flush(buffer: &Buffer, used: usize) -> usize
+pub fn flush(out: Stdout, buffer: &Buffer, used: usize) -> usize
     ensures { result ≡ 0 }
 {
     let whole: &[u8] = buffer;
-    io::write_all(STDOUT_FILENO, &whole[0..within(used)]);
+    let _ = out.write_all(&whole[0..within(used)]);
     0
 }
