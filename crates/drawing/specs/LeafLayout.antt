@@ -8,24 +8,24 @@ use Rattle.drawing.specs.Limits.{v1_2, v1_5}
 use Rattle.drawing.specs.Fields.{flow_flag}
 use Rattle.drawing.specs.FieldLaws.{flow_flag-only}
 use Rattle.drawing.specs.String.{String, string}
-use Rattle.drawing.specs.Path.{path as pathSpecs}
-use Rattle.drawing.specs.Text.{text as textSpecs}
-use Rattle.drawing.specs.Bitmap.{bitmap as bitmapSpecs}
-use Rattle.drawing.specs.TextPath.{text_path as textPathSpecs}
+use Rattle.drawing.specs.Path.{path as path_specs}
+use Rattle.drawing.specs.Text.{text as text_specs}
+use Rattle.drawing.specs.Bitmap.{bitmap as bitmap_specs}
+use Rattle.drawing.specs.TextPath.{text_path as text_path_specs}
 use Rattle.drawing.specs.Object.{Leaf, path, text, bitmap, text_path}
 use Rattle.drawing.specs.ObjectId.{leaf_letter, path_of, text_of, bitmap_of, text_path_of}
 
 abbrev pub path_case : ℕ → Alternative Leaf leaf_letter
-path_case v = alternative (code "P") true (pathSpecs v) path path_of (λ x. refl) (λ x. refl)
+path_case v = alternative (code "P") true (path_specs v) path path_of (λ x. refl) (λ x. refl)
 
 abbrev pub text_case : ℕ → Alternative Leaf leaf_letter
-text_case v = alternative (code "T") true (textSpecs v) text text_of (λ x. refl) (λ x. refl)
+text_case v = alternative (code "T") true (text_specs v) text text_of (λ x. refl) (λ x. refl)
 
 abbrev pub bitmap_case : Alternative Leaf leaf_letter
-bitmap_case = alternative (code "I") true bitmapSpecs bitmap bitmap_of (λ x. refl) (λ x. refl)
+bitmap_case = alternative (code "I") true bitmap_specs bitmap bitmap_of (λ x. refl) (λ x. refl)
 
 abbrev pub text_path_case : ℕ → Alternative Leaf leaf_letter
-text_path_case v = alternative (code "X") (leb v1_5 v) (textPathSpecs v) text_path text_path_of (λ x. refl) (λ x. refl)
+text_path_case v = alternative (code "X") (leb v1_5 v) (text_path_specs v) text_path text_path_of (λ x. refl) (λ x. refl)
 
 abbrev pub other_cases : ℕ → List (Alternative Leaf leaf_letter)
 other_cases v = text_case v ∷ bitmap_case ∷ text_path_case v ∷ []

@@ -10,11 +10,11 @@ pub record LineStyle : Type 0 where
   pub width : ℕ
   pub dashes : List ℕ
   -- 0 without dashes
-  pub dashOffset : ℕ
+  pub dash_offset : ℕ
   pub cap : ℕ
   pub join : ℕ
   -- 0 unless the join is 0
-  pub mitreLimit : ℕ
+  pub mitre_limit : ℕ
   pub winding : ℕ
   pub start : List Marker
   -- none in 1.0
@@ -32,7 +32,7 @@ line_style v =
     & markers v
     & when (leb v1_1 v) (markers v) []
     & markers v)
-    (λ (width, ((dashes, dashOffset), (cap, ((join, mitreLimit), (winding, (start, (mid, end))))))).
-    record { width = width; dashes = dashes; dashOffset = dashOffset; cap = cap; join = join; mitreLimit = mitreLimit; winding = winding; start = start; mid = mid; end = end })
-    (λ s. (s.width, ((s.dashes, s.dashOffset), (s.cap, ((s.join, s.mitreLimit), (s.winding, (s.start, (s.mid, s.end))))))))
+    (λ (width, ((dashes, dash_offset), (cap, ((join, mitre_limit), (winding, (start, (mid, end))))))).
+    record { width = width; dashes = dashes; dash_offset = dash_offset; cap = cap; join = join; mitre_limit = mitre_limit; winding = winding; start = start; mid = mid; end = end })
+    (λ s. (s.width, ((s.dashes, s.dash_offset), (s.cap, ((s.join, s.mitre_limit), (s.winding, (s.start, (s.mid, s.end))))))))
     (λ t good. refl)

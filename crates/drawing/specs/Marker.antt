@@ -20,7 +20,7 @@ pub record Marker : Type 0 where
   pub paint : Plain
   pub overlay : ℕ
   pub offset : Option ℕ
-  pub repeatOffset : Option ℕ
+  pub repeat_offset : Option ℕ
 
 -- The highest marker id.
 abbrev pub last_marker : ℕ → ℕ
@@ -41,7 +41,7 @@ arrow id =
     renamed
     (field float & field flag & field flag)
     (λ (size, (double, reversed)).
-    record { id = id; size = size; double = double; repeat = 0; reversed = reversed; angle = none; paint = transparent; overlay = 0; offset = none; repeatOffset = none })
+    record { id = id; size = size; double = double; repeat = 0; reversed = reversed; angle = none; paint = transparent; overlay = 0; offset = none; repeat_offset = none })
     (λ m. (m.size, (m.double, m.reversed)))
     (λ t good. refl)
 
@@ -51,9 +51,9 @@ marker v id =
     renamed
     (field float & field (byte_in 1 3) & field flag & unless_flag (field float) & plain_paint v
     & (field flag ▸ λ overlay. when (leb v1_4 v && eqb overlay 0) (if_flag (field float) & if_flag (field float)) (none, none)))
-    (λ (size, (repeat, (reversed, (angle, (paint, (overlay, (offset, repeatOffset))))))).
-    record { id = id; size = size; double = 0; repeat = repeat; reversed = reversed; angle = angle; paint = paint; overlay = overlay; offset = offset; repeatOffset = repeatOffset })
-    (λ m. (m.size, (m.repeat, (m.reversed, (m.angle, (m.paint, (m.overlay, (m.offset, m.repeatOffset))))))))
+    (λ (size, (repeat, (reversed, (angle, (paint, (overlay, (offset, repeat_offset))))))).
+    record { id = id; size = size; double = 0; repeat = repeat; reversed = reversed; angle = angle; paint = paint; overlay = overlay; offset = offset; repeat_offset = repeat_offset })
+    (λ m. (m.size, (m.repeat, (m.reversed, (m.angle, (m.paint, (m.overlay, (m.offset, m.repeat_offset))))))))
     (λ t good. refl)
 
 abbrev pub marker_body : ℕ → ℕ → Layout Marker

@@ -25,14 +25,14 @@ pub data Segment : Type 0 where
 -- What a path draws, and what a text runs along.
 pub record Outline : Type 0 where
   -- the char O or C
-  pub openOrClosed : ℕ
+  pub open_or_closed : ℕ
   -- a field from 1.3 on; below, the origin stands for it
   pub start : Point
   pub segments : List Segment
 
 pub record Path : Type 0 where
-  pub linePaint : Paint
-  pub fillPaint : Paint
+  pub line_paint : Paint
+  pub fill_paint : Paint
   pub style : LineStyle
   pub outline : Outline
 
@@ -98,14 +98,14 @@ abbrev pub outline : ℕ → Layout Outline
 outline v =
     renamed
     (field (char_where (one_of_chars (code "O" ∷ code "C" ∷ []))) & counted_segments v)
-    (λ (openOrClosed, (start, segments)). record { openOrClosed = openOrClosed; start = start; segments = segments })
-    (λ o. (o.openOrClosed, (o.start, o.segments)))
+    (λ (open_or_closed, (start, segments)). record { open_or_closed = open_or_closed; start = start; segments = segments })
+    (λ o. (o.open_or_closed, (o.start, o.segments)))
     (λ t good. refl)
 
 abbrev pub path : ℕ → Layout Path
 path v =
     renamed
     (paint v & paint v & line_style v & outline v)
-    (λ (linePaint, (fillPaint, (style, outline))). record { linePaint = linePaint; fillPaint = fillPaint; style = style; outline = outline })
-    (λ p. (p.linePaint, (p.fillPaint, (p.style, p.outline))))
+    (λ (line_paint, (fill_paint, (style, outline))). record { line_paint = line_paint; fill_paint = fill_paint; style = style; outline = outline })
+    (λ p. (p.line_paint, (p.fill_paint, (p.style, p.outline))))
     (λ t good. refl)

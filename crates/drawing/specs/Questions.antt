@@ -72,10 +72,10 @@ pub record PaintGiven : Type 0 where
   pub form : ℕ
   pub first : PaintEnum.Paint
   pub second : PaintEnum.Paint
-  pub directionOrLocation : ℕ
+  pub direction_or_location : ℕ
 
 abbrev pub given : (number form : ℕ) (first second : PaintEnum.Paint) → ℕ → PaintGiven
-given n form first second integer = record { answer = answer n 0 0 0; form = form; first = first; second = second; directionOrLocation = integer }
+given n form first second integer = record { answer = answer n 0 0 0; form = form; first = first; second = second; direction_or_location = integer }
 
 -- It, for each case of the public answer.
 abbrev pub paint_given : PaintAnswer → PaintGiven
@@ -105,8 +105,8 @@ wording (text_path x) = some x.text
 
 -- The paint of this part, where an object has the part.
 abbrev pub paint_part : Which → Object → Option P.Paint
-paint_part Line o = map (λ p. p.linePaint) (leaf_part path_of o)
-paint_part Fill o = map (λ p. p.fillPaint) (leaf_part path_of o)
+paint_part Line o = map (λ p. p.line_paint) (leaf_part path_of o)
+paint_part Fill o = map (λ p. p.fill_paint) (leaf_part path_of o)
 paint_part Text o = map (λ t. t.paint) (leaf_part wording o)
 
 abbrev pub paint_asked : Which → ℕ → Drawing → PaintAnswer
@@ -212,7 +212,7 @@ description_asked row d = description_place d.version (end_in (contents_of d) ro
 
 -- The alternative if it has a char, otherwise the plain text. A is the type of the lent runs themselves: what is shown is that very run.
 abbrev pub shown : {A : Type 0} → ℕ → (alternative plain : A) → A
-shown alternativeLength alternative plain = cond (ltb 0 alternativeLength) alternative plain
+shown alternative_length alternative plain = cond (ltb 0 alternative_length) alternative plain
 
 -- The chars that are shown for a text.
 abbrev pub shown_chars : T.Text → String

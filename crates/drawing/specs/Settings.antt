@@ -21,7 +21,7 @@ pub record AllSettings : Type 0 where
   pub lock : ℕ
   pub rulers : ℕ
   pub tool : ℕ
-  pub normalSize : ℕ
+  pub normal_size : ℕ
   pub paper : Paper
   pub unit : ℕ
   pub major : ℕ
@@ -30,22 +30,22 @@ pub record AllSettings : Type 0 where
 pub data Settings : Type 0 where
   absent : Settings
   all : AllSettings → Settings
-  paperOnly : Paper → Settings
+  paper_only : Paper → Settings
 
 abbrev pub settings_number : Settings → ℕ
 settings_number absent = 0
 settings_number (all s) = 1
-settings_number (paperOnly p) = 2
+settings_number (paper_only p) = 2
 
 abbrev pub all_of : Settings → Option AllSettings
 all_of absent = none
 all_of (all s) = some s
-all_of (paperOnly p) = none
+all_of (paper_only p) = none
 
 abbrev pub paper_of : Settings → Option Paper
 paper_of absent = none
 paper_of (all s) = none
-paper_of (paperOnly p) = some p
+paper_of (paper_only p) = some p
 
 -- ---- the layout
 
@@ -62,9 +62,9 @@ abbrev pub all_settings : ℕ → Layout AllSettings
 all_settings v =
     renamed
     (field flag & field flag & field flag & field (integer_in 0 7) & field integer & paper v & field (byte_in 0 3) & field integer & field integer)
-    (λ (grid, (lock, (rulers, (tool, (normalSize, (paper, (unit, (major, minor)))))))).
-    record { grid = grid; lock = lock; rulers = rulers; tool = tool; normalSize = normalSize; paper = paper; unit = unit; major = major; minor = minor })
-    (λ s. (s.grid, (s.lock, (s.rulers, (s.tool, (s.normalSize, (s.paper, (s.unit, (s.major, s.minor)))))))))
+    (λ (grid, (lock, (rulers, (tool, (normal_size, (paper, (unit, (major, minor)))))))).
+    record { grid = grid; lock = lock; rulers = rulers; tool = tool; normal_size = normal_size; paper = paper; unit = unit; major = major; minor = minor })
+    (λ s. (s.grid, (s.lock, (s.rulers, (s.tool, (s.normal_size, (s.paper, (s.unit, (s.major, s.minor)))))))))
     (λ t good. refl)
 
 abbrev pub absent_case : Alternative Settings settings_number
@@ -74,7 +74,7 @@ abbrev pub all_case : ℕ → Alternative Settings settings_number
 all_case v = alternative 1 true (all_settings v) all all_of (λ s. refl) (λ s. refl)
 
 abbrev pub paper_case : ℕ → Alternative Settings settings_number
-paper_case v = alternative 2 true (paper v) paperOnly paper_of (λ p. refl) (λ p. refl)
+paper_case v = alternative 2 true (paper v) paper_only paper_of (λ p. refl) (λ p. refl)
 
 -- Below 1.3 a flag tells which settings there are, from 1.3 on a byte.
 abbrev pub settings : ℕ → Layout Settings

@@ -32,7 +32,7 @@ has_outline kind = eqb kind path_kind || eqb kind text_path_kind
 -- This is the place of the outline of whatever path, or text along a path, stands here.
 abbrev pub InPath : (bodies : List ℕ) → (version start : ℕ) → ℕ → Type 0
 InPath bs v start r =
-    (p : Path) → Here (P.paint v & P.paint v & line_style v & outline v) bs start (p.linePaint, (p.fillPaint, (p.style, p.outline))) → Here (outline v) bs r p.outline
+    (p : Path) → Here (P.paint v & P.paint v & line_style v & outline v) bs start (p.line_paint, (p.fill_paint, (p.style, p.outline))) → Here (outline v) bs r p.outline
 
 abbrev pub InTextPath : (bodies : List ℕ) → (version start : ℕ) → ℕ → Type 0
 InTextPath bs v start r =

@@ -106,7 +106,7 @@ module _ {ws : List ℕ} (v at : ℕ) (o : Outline) (here : Here (outline v) ws 
   count = length o.segments
 
   abbrev front : List ℕ
-  front = o.openOrClosed / 1 % 2 ^ 32 ∷ count / 1 % 2 ^ 32 ∷ []
+  front = o.open_or_closed / 1 % 2 ^ 32 ∷ count / 1 % 2 ^ 32 ∷ []
 
   -- Its segments stand there, with starts of their own or without.
   abbrev SegmentsFrom : Bool → ℕ → Type 0

@@ -15,7 +15,7 @@
 --   renamed f make apart    those of f                                        it is made of a value that is good for f
 --   case f make apart       those of f                                        the same, where it can be taken apart
 --   implied f g told        those of f, then those of g                       what it tells is good for f, and it is good for g of that
---   oneOf k fallback rest   a tag of kind k, then those of the alternative    its own tag is allowed, and it is good for that alternative (Choice.antt)
+--   one_of k fallback rest   a tag of kind k, then those of the alternative    its own tag is allowed, and it is good for that alternative (Choice.antt)
 --                           that has the tag
 --   optional k yes no f     a flag of kind k, then f's where it is `yes`      it is none, or some value that is good for f (Choice.antt)
 --

@@ -35,7 +35,7 @@ color_of (Hsb h s b a) = color 4 h s b a plus_zero
 -- What an answer says (`paint_given`): the number, the form (0 plain, 1 linear, 2 radial), the gradient's integer, and the plain paints.
 abbrev pub paint_struct : PaintGiven → GivenPaint
 paint_struct g =
-    record { number = g.answer.number; form = g.form; place = g.directionOrLocation; first = color_of g.first; second = color_of g.second }
+    record { number = g.answer.number; form = g.form; place = g.direction_or_location; first = color_of g.first; second = color_of g.second }
 
 -- The part that a number stands for; a number above 2 is a part that no object has.
 abbrev pub part_numbered : ℕ → Option Which

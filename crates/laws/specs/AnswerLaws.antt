@@ -10,7 +10,7 @@ use Rattle.drawing.specs.Codecs.{byte_fields}
 use Rattle.format.specs.FixedCodecLaws.{below_spelled}
 use Rattle.laws.specs.CodecLaws.{bytes_sensible}
 use Rattle.format.specs.Format.{fields}
-use Rattle.drawing.specs.Drawing.{Drawing, outer, file as fileLayout, file_of, IsFile}
+use Rattle.drawing.specs.Drawing.{Drawing, outer, file as file_layout, file_of, IsFile}
 use Rattle.drawing.specs.NormalForm.{normal_form}
 use Rattle.drawing.specs.Reading.{Reading, drawing, refusal, drawing_of}
 use Rattle.laws.specs.DrawingLaws.{own_file, file-length, drawing-of-bytes, refusal-of-bytes, refusal_positive}
@@ -151,7 +151,7 @@ read_normal file contents bodies b a =
     let d = a.drawing in
     let again : Accepted (file_of d) contents bodies = record { drawing = d; is-file = own_file d a.is-file.acceptable; rows_fit = a.rows_fit; words-fit = a.words-fit } in
     ap (λ f. read_result f contents bodies) (normal_form_is file d a.is-file.spelled)
-    ∙ read_gives (file_of d) contents bodies (below_spelled byte_fields bytes_sensible (fields fileLayout.format d)) again
+    ∙ read_gives (file_of d) contents bodies (below_spelled byte_fields bytes_sensible (fields file_layout.format d)) again
     ∙ ap {B = ReadResult} (λ n. record { answer = answer 0 n (rows_of d) (word_count d); contents = overwrite (contents_of d) contents; bodies = overwrite (bodies_of d) bodies }) (sym (file-length a.is-file))
     ∙ sym (read_gives file contents bodies b a)
 
@@ -177,6 +177,6 @@ write_then_read contents bodies file c d b accepted rows_fit words-fit =
     } in
     subst (ReadBack contents bodies c d) (sym g)
     (ap (λ f. read_result f c d) (take-overwrite (file_of D) file (length (file_of D)) refl)
-    ∙ read_gives (file_of D) c d (below_spelled byte_fields bytes_sensible (fields fileLayout.format D)) a
+    ∙ read_gives (file_of D) c d (below_spelled byte_fields bytes_sensible (fields file_layout.format D)) a
     ∙ ap₂ {C = ReadResult} (λ x y. record { answer = answer 0 (length (file_of D)) (rows_of D) (word_count D); contents = overwrite x c; bodies = overwrite y d })
     (sym w.is-table.contents-are) (sym w.is-table.bodies-are))

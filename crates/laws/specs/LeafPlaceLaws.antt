@@ -23,7 +23,7 @@ and_false false = refl
 
 module _ (c bs : List ℕ) (v r : ℕ) where
   pub path-here : (p : Path) (d : String) → RowBody c bs v r (leaf (path p) d)
-      → Here (P.paint v & P.paint v & line_style v & outline v) bs (start_in c r) (p.linePaint, (p.fillPaint, (p.style, p.outline)))
+      → Here (P.paint v & P.paint v & line_style v & outline v) bs (start_in c r) (p.line_paint, (p.fill_paint, (p.style, p.outline)))
   path-here p d row =
       let others = here-other (path_case v) (text_case v) (bitmap_case ∷ text_path_case v ∷ []) (code "P") refl (leaf_here c bs v r (path p) d row) in
       let last = here-other (path_case v) bitmap_case (text_path_case v ∷ []) (code "P") refl others in

@@ -129,8 +129,8 @@ paint v =
 
 marker : (v id : ℕ) → Every Mild (M.marker_body v id).format
 marker v id =
-    let ifFloat : Every Mild (if_flag (field F.float)).format = (any, λ f. (any, tt)) in (
-      (any, λ a. (byte 1 3, λ b. (any, λ d. ((any, λ f. (any, tt)), λ e. (plain_paint v, λ g. (any, λ h. ((ifFloat, λ i. ifFloat), tt))))))),
+    let if_float : Every Mild (if_flag (field F.float)).format = (any, λ f. (any, tt)) in (
+      (any, λ a. (byte 1 3, λ b. (any, λ d. ((any, λ f. (any, tt)), λ e. (plain_paint v, λ g. (any, λ h. ((if_float, λ i. if_float), tt))))))),
       (any, λ a. (any, λ b. any)),
     )
 

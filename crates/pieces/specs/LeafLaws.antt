@@ -71,15 +71,15 @@ module _ (K : Script (Unit {0})) where
   path_apart : (v : ℕ) → path v ⟫ K ≡ (paint v ⟫ paint v ⟫ line_style v ⟫ outline v ⟫ K)
   path_apart v =
       four {Z = Path} (paint v) (paint v) (line_style v) (outline v) (outline v) (outline v) (outline v) K
-      (λ (linePaint, (fillPaint, (style, outline))). record { linePaint = linePaint; fillPaint = fillPaint; style = style; outline = outline })
-      (λ p. (p.linePaint, (p.fillPaint, (p.style, p.outline)))) (λ t good. refl)
+      (λ (line_paint, (fill_paint, (style, outline))). record { line_paint = line_paint; fill_paint = fill_paint; style = style; outline = outline })
+      (λ p. (p.line_paint, (p.fill_paint, (p.style, p.outline)))) (λ t good. refl)
 
   line_apart : (v : ℕ) → line_style v ⟫ K ≡ (field F.float ⟫ dashes ⟫ line_end ⟫ markers v ⟫ cond (leb 1 v) (markers v ⟫ markers v ⟫ K) (markers v ⟫ K))
   line_apart v =
       lined {Z = LineStyle} (field F.float) dashes (field (F.byte_in 0 2)) join (field (F.byte_in 0 1)) (markers v) (markers v) K (leb 1 v) []
-      (λ (width, ((dashes, dashOffset), (cap, ((join, mitreLimit), (winding, (start, (mid, last))))))).
-      record { width = width; dashes = dashes; dashOffset = dashOffset; cap = cap; join = join; mitreLimit = mitreLimit; winding = winding; start = start; mid = mid; end = last })
-      (λ s. (s.width, ((s.dashes, s.dashOffset), (s.cap, ((s.join, s.mitreLimit), (s.winding, (s.start, (s.mid, s.end)))))))) (λ t good. refl)
+      (λ (width, ((dashes, dash_offset), (cap, ((join, mitre_limit), (winding, (start, (mid, last))))))).
+      record { width = width; dashes = dashes; dash_offset = dash_offset; cap = cap; join = join; mitre_limit = mitre_limit; winding = winding; start = start; mid = mid; end = last })
+      (λ s. (s.width, ((s.dashes, s.dash_offset), (s.cap, ((s.join, s.mitre_limit), (s.winding, (s.start, (s.mid, s.end)))))))) (λ t good. refl)
 
   style_apart : text_style ⟫ K ≡ (string 0 ⟫ face ⟫ if_flag latex ⟫ K)
   style_apart =

@@ -27,8 +27,8 @@ segments_from s part n doubles =
 -- ---- the count
 
 outline_apart : (v : ℕ) (K : Script (Unit {0})) → outline v ⟫ K ≡ (field closed_letter ⟫ counted_segments v ⟫ K)
-outline_apart v K = two {Z = Outline} (field closed_letter) (counted_segments v) (λ (openOrClosed, (start, segments)). record { openOrClosed = openOrClosed; start = start; segments = segments })
-    (λ o. (o.openOrClosed, (o.start, o.segments))) (λ t good. refl)
+outline_apart v K = two {Z = Outline} (field closed_letter) (counted_segments v) (λ (open_or_closed, (start, segments)). record { open_or_closed = open_or_closed; start = start; segments = segments })
+    (λ o. (o.open_or_closed, (o.start, o.segments))) (λ t good. refl)
   where
     two : {A B Z : Type 0} (a : Layout A) (b : Layout B) (make : A × B → Z) (back : Z → A × B) (same : (t : A × B) → (a & b).Good t → back (make t) ≡ t) → renamed (a & b) make back same ⟫ K ≡ (a ⟫ b ⟫ K)
     two a b make back same = refl

@@ -39,9 +39,9 @@ module _ (c bs : List ℕ) (v r : ℕ) where
   -- ---- paths
 
   paints-here : {start : ℕ} → start ≡ start_in c r → (p : Path) (d : String) → RowBody c bs v r (leaf (path p) d)
-      → Here (P.paint v & P.paint v & line_style v & outline v) bs start (p.linePaint, (p.fillPaint, (p.style, p.outline)))
+      → Here (P.paint v & P.paint v & line_style v & outline v) bs start (p.line_paint, (p.fill_paint, (p.style, p.outline)))
   paints-here start_is p d row =
-      subst (λ at. Here (P.paint v & P.paint v & line_style v & outline v) bs at (p.linePaint, (p.fillPaint, (p.style, p.outline)))) (sym start_is) (path-here c bs v r p d row)
+      subst (λ at. Here (P.paint v & P.paint v & line_style v & outline v) bs at (p.line_paint, (p.fill_paint, (p.style, p.outline)))) (sym start_is) (path-here c bs v r p d row)
 
   -- A row's kind says that its object is a path.
   of-path : (P : Object → Type 0) → ((p : Path) (d : String) → RowBody c bs v r (leaf (path p) d) → P (leaf (path p) d))
@@ -57,13 +57,13 @@ module _ (c bs : List ℕ) (v r : ℕ) where
     pub line_painted : (o : Object) → RowBody c bs v r o → kind_in c r ≡ 2 → Painted Line o start
     line_painted =
         of-path (λ o. Painted Line o start)
-        (λ p d row. record { paint = p.linePaint; here = here-first (P.paint v) (P.paint v & line_style v & outline v) (paints-here start_is p d row); part-is = refl })
+        (λ p d row. record { paint = p.line_paint; here = here-first (P.paint v) (P.paint v & line_style v & outline v) (paints-here start_is p d row); part-is = refl })
 
     pub fill_painted : {fill : ℕ} → Behind (P.paint v) bs start fill → (o : Object) → RowBody c bs v r o → kind_in c r ≡ 2 → Painted Fill o fill
     fill_painted {fill} is =
         of-path (λ o. Painted Fill o fill)
         (λ p d row.
-        record { paint = p.fillPaint; here = here-first (P.paint v) (line_style v & outline v) (here_next (P.paint v) (P.paint v & line_style v & outline v) (paints-here start_is p d row) is); part-is = refl })
+        record { paint = p.fill_paint; here = here-first (P.paint v) (line_style v & outline v) (here_next (P.paint v) (P.paint v & line_style v & outline v) (paints-here start_is p d row) is); part-is = refl })
 
   -- ---- texts
 

@@ -8,7 +8,7 @@ use Rattle.format.specs.Parse.{parse}
 use Rattle.format.specs.Pass.{put}
 use Rattle.drawing.specs.Reading.{bytes}
 use Rattle.drawing.specs.Limits.{length_limit}
-use Rattle.drawing.specs.Table.{row_width, row as rowWords, words_of}
+use Rattle.drawing.specs.Table.{row_width, row as row_words, words_of}
 use Rattle.laws.specs.CodecLaws.{bytes_sensible}
 use Rattle.laws.specs.SizeLaws.{words-few}
 use Rattle.ways.specs.declared.Pass.{Pass}
@@ -74,7 +74,7 @@ module _ {A : Type 0} {L : Layout A} {kind parent start row next : ℕ} {file cs
   pub record Body (a : A) : Type 0 where
     pub found-is : Found L way file bs bs' at to r.at r.to a
     pub row_is : r.row ≡ next
-    pub row_written : Writes (row_width * row) (rowWords kind parent start (r.to - start)) cs cs'
+    pub row_written : Writes (row_width * row) (row_words kind parent start (r.to - start)) cs cs'
     pub few : length (words_of L a) + at ≤ r.at
 
   pub body_met : r.at < Passes.refused → (a : A) × Body a
@@ -85,7 +85,7 @@ module _ {A : Type 0} {L : Layout A} {kind parent start row next : ℕ} {file cs
         record {
           found-is = f.1;
           row_is = stored.0;
-          row_written = put_written (rowWords kind parent start (r.to - start)) stored.1;
+          row_written = put_written (row_words kind parent start (r.to - start)) stored.1;
           few = omega (arith, words-few L f.0, f.1.at-is);
         },
       )
@@ -124,5 +124,5 @@ module _ {A : Type 0} {L : Layout A} {kind parent start row next : ℕ} {file cs
   pub rowed_stopped : {r : Walked} → Passes.refused ≤ p.at → r ≡ record { row = row; at = p.at; to = p.to } → Rowed L kind parent start row next file cs bs cs bs' at to r
   rowed_stopped off is = rw is (record { laid = laid; rowed = λ on. absurd (omega arith) })
 
-  pub rowed_stored : {cs' : List ℕ} → cs' ≡ put (row_width * row) (rowWords kind parent start (p.to - start)) cs → Rowed L kind parent start row next file cs bs cs' bs' at to (record { row = next; at = p.at; to = p.to })
+  pub rowed_stored : {cs' : List ℕ} → cs' ≡ put (row_width * row) (row_words kind parent start (p.to - start)) cs → Rowed L kind parent start row next file cs bs cs' bs' at to (record { row = next; at = p.at; to = p.to })
   rowed_stored is = record { laid = laid; rowed = λ on. (refl, is) }

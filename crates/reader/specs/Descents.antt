@@ -8,7 +8,7 @@ use Rattle.drawing.specs.Reading.{bytes}
 use Rattle.drawing.specs.Limits.{length_limit}
 use Rattle.drawing.specs.Object.{Object, group, of_list}
 use Rattle.drawing.specs.ObjectLayout.{object, group_body}
-use Rattle.drawing.specs.Table.{row_width, row as rowWords, rows, rows_all, bodies, bodies_all, contents, contents_all}
+use Rattle.drawing.specs.Table.{row_width, row as row_words, rows, rows_all, bodies, bodies_all, contents, contents_all}
 use Rattle.ways.specs.Passes as Passes
 use Rattle.ways.specs.Carries.{Laid}
 use Rattle.ways.specs.Written.{Writes}
@@ -93,4 +93,4 @@ DescendsGroup file v deep parent at row to cs bs cs' bs' r =
 -- The fields of a body were passed, and behind them its row was stored, of this kind and with this start.
 pub record Rowed {A : Type 0} (L : Layout A) (kind parent start row next : ℕ) (file cs bs cs' bs' : List ℕ) (at to : ℕ) (r : Walked) : Type 0 where
   pub laid : Laid L.format way file bs bs' at to r.at r.to
-  pub rowed : r.at < Passes.refused → (r.row ≡ next) × (cs' ≡ put (row_width * row) (rowWords kind parent start (r.to - start)) cs)
+  pub rowed : r.at < Passes.refused → (r.row ≡ next) × (cs' ≡ put (row_width * row) (row_words kind parent start (r.to - start)) cs)

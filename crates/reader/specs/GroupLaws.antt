@@ -20,7 +20,7 @@ use Rattle.drawing.specs.Object.{Object, group, of_list, list_of}
 use Rattle.drawing.specs.ObjectLaws.{list_of_list}
 use Rattle.drawing.specs.LeafLayout.{object_end}
 use Rattle.drawing.specs.ObjectLayout.{object}
-use Rattle.drawing.specs.Table.{words_of, group_kind, group_words, row_width, row as rowWords, bodies_all, contents_all}
+use Rattle.drawing.specs.Table.{words_of, group_kind, group_words, row_width, row as row_words, bodies_all, contents_all}
 use Rattle.laws.specs.CodecLaws.{bytes_sensible}
 use Rattle.laws.specs.ParseLaws.{group_parse}
 use Rattle.ways.specs.declared.FieldPass.{FieldPass}
@@ -125,8 +125,8 @@ module _ (file : List ℕ) (below : Below 256 file) (v deep parent at row to : �
               let own-size : length own ≡ suc (length (words_of (object_end v) d)) = refl in
               let sum = length-append (bodies_all os v) own in
               let size_is : r.to - s.to ≡ length own = omega (arith, f.to_is, own-size) in
-              let row_is : rowWords group_kind parent s.to (r.to - s.to) ≡ rowWords group_kind parent (to + length (bodies_all os v)) (length own) =
-              ap₂ (λ i j. rowWords group_kind parent i j) here.to_is size_is in
+              let row_is : row_words group_kind parent s.to (r.to - s.to) ≡ row_words group_kind parent (to + length (bodies_all os v)) (length own) =
+              ap₂ (λ i j. row_words group_kind parent i j) here.to_is size_is in
               let behind-row : row_width * (row + 1) ≡ row_width * row + 4 = omega arith in
               descends_met (from_end_lem ∙ ap (λ o. and_then o (λ d rest. found (group os d) rest)) f.parsed)
               (record {

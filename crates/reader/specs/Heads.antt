@@ -9,7 +9,7 @@ use Rattle.format.specs.PassLaws.{place-of}
 use Rattle.drawing.specs.Reading.{bytes, Reading, refusal, reading, drawing_of}
 use Rattle.drawing.specs.Limits.{length_limit, last_minor}
 use Rattle.drawing.specs.Fields.{unless, jdr, magic, version_length, version_chars, version_zero}
-use Rattle.drawing.specs.Drawing.{Drawing, file as fileLayout}
+use Rattle.drawing.specs.Drawing.{Drawing, file as file_layout}
 use Rattle.laws.specs.FileParseLaws.{file-parse, from_settings, from_version}
 use Rattle.ways.specs.declared.FieldPass.{FieldPass}
 use Rattle.ways.specs.Passes as Passes
@@ -67,7 +67,7 @@ field-refused file at n o then inside is = ap (λ o. reading (length file) (and_
 -- A file that is not too long begins with the chars JDR.
 from-magic : (file : List ℕ) → length file ≤ length_limit → drawing_of file ≡ reading (length file) (and_then (bytes.read magic (drop 0 file)) (λ m rest. from_version rest))
 from-magic file short =
-    ap (λ t. cond t (refusal 1 length_limit) (reading (length file) (parse bytes fileLayout file))) (le-ltb length_limit (length file) short)
+    ap (λ t. cond t (refusal 1 length_limit) (reading (length file) (parse bytes file_layout file))) (le-ltb length_limit (length file) short)
     ∙ ap (reading (length file)) (file-parse file)
 
 module _ (file : List ℕ) (below : Below 256 file) {q : FieldPass} where
@@ -138,7 +138,7 @@ module _ (file : List ℕ) (below : Below 256 file) {q : FieldPass} where
 
   pub head-long : length_limit < length file → q ≡ record { value = 0; pass = refusal_of way 1 length_limit } → Heads file (drawing_of file) q
   head-long long is =
-      refused-head (ap (λ t. cond t (refusal 1 length_limit) (reading (length file) (parse bytes fileLayout file))) (lt-ltb length_limit (length file) long)) is
+      refused-head (ap (λ t. cond t (refusal 1 length_limit) (reading (length file) (parse bytes file_layout file))) (lt-ltb length_limit (length file) long)) is
 
   module _ (short : length file ≤ length_limit) where
     pub magic-cut : length file < 6 → q ≡ record { value = 0; pass = refusal_of way 2 0 } → Heads file (drawing_of file) q

@@ -15,7 +15,7 @@ use Rattle.drawing.specs.Object.{Leaf, leaf}
 use Rattle.drawing.specs.ObjectId.{leaf_letter}
 use Rattle.drawing.proofs.ObjectLaws.{group_no_leaf}
 use Rattle.drawing.specs.LeafLayout.{path_case, other_cases, is_leaf, leaf_body}
-use Rattle.drawing.specs.Table.{words_of, leaf_kind, leaf_words, row as rowWords}
+use Rattle.drawing.specs.Table.{words_of, leaf_kind, leaf_words, row as row_words}
 use Rattle.laws.specs.ParseLaws.{id_kind, object-refused, object_leaf, object_group}
 use Rattle.ways.specs.declared.Pass.{Pass}
 use Rattle.ways.specs.Passes as Passes
@@ -168,7 +168,7 @@ module _ (file : List ℕ) (below : Below 256 file) (v at : ℕ) where
               inside = f.inside;
               row_is = b.row_is;
               to_is = omega (arith, f.to_is, long);
-              rows_written = same-written (ap₂ (λ k n. rowWords k parent to n) kind-is size_is) b.row_written;
+              rows_written = same-written (ap₂ (λ k n. row_words k parent to n) kind-is size_is) b.row_written;
               words-written = same-written words_are f.written;
               few-rows = omega (arith, b.row_is, b.few);
               few_words = omega (arith, f.to_is, b.few);

@@ -11,7 +11,7 @@ use Rattle.drawing.specs.declared.Answer.{Answer}
 use Rattle.drawing.specs.Reading.{bytes, Reading, drawing, refusal, reading, drawing_of}
 use Rattle.drawing.specs.Limits.{length_limit}
 use Rattle.drawing.specs.Fields.{unless, or_else}
-use Rattle.drawing.specs.Drawing.{Drawing, outer, file as fileLayout}
+use Rattle.drawing.specs.Drawing.{Drawing, outer, file as file_layout}
 use Rattle.drawing.specs.Table.{head_words, contents_of, bodies_of}
 use Rattle.drawing.specs.Answers.{answer, overwrite, rows_of, word_count, room_fault, stored}
 use Rattle.drawing.specs.Computed.{read_from, read_result}
@@ -54,12 +54,12 @@ offset_small file n o e = by (ltb length_limit (length file)) refl
   where
     by : (t : Bool) → ltb length_limit (length file) ≡ t → o ≤ length_limit
     by true is =
-        let same : refusal 1 length_limit ≡ refusal n o = ap (λ t. cond t (refusal 1 length_limit) (reading (length file) (parse bytes fileLayout file))) (sym is) ∙ e in
+        let same : refusal 1 length_limit ≡ refusal n o = ap (λ t. cond t (refusal 1 length_limit) (reading (length file) (parse bytes file_layout file))) (sym is) ∙ e in
         let here : length_limit ≡ o = cc in
         omega arith
     by false is =
-        offset_read (length file) n o (parse bytes fileLayout file) (ltb-false length_limit (length file) is)
-        (ap (λ t. cond t (refusal 1 length_limit) (reading (length file) (parse bytes fileLayout file))) (sym is) ∙ e)
+        offset_read (length file) n o (parse bytes file_layout file) (ltb-false length_limit (length file) is)
+        (ap (λ t. cond t (refusal 1 length_limit) (reading (length file) (parse bytes file_layout file))) (sym is) ∙ e)
 
 module _ {file cs bs cs' bs' : List ℕ} {r : Walked} (descends : DescendsFile file cs bs cs' bs' r) where
   pub judged-refused : Below 256 file → Passes.refused ≤ r.at → Refused file r.to (r.at - Passes.refused)

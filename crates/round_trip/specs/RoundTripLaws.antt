@@ -9,7 +9,7 @@ use Rattle.format.specs.Format.{fields}
 use Rattle.format.specs.FixedCodecLaws.{below_spelled}
 use Rattle.drawing.specs.declared.Answer.{Answer}
 use Rattle.drawing.specs.Codecs.{byte_fields}
-use Rattle.drawing.specs.Drawing.{Drawing, outer, file as fileLayout, file_of, IsFile}
+use Rattle.drawing.specs.Drawing.{Drawing, outer, file as file_layout, file_of, IsFile}
 use Rattle.drawing.specs.NormalForm.{normal_form}
 use Rattle.drawing.specs.Table.{head_words, contents_of, bodies_of}
 use Rattle.drawing.specs.TableDrawing.{drawing_of_table}
@@ -83,7 +83,7 @@ module _ {file contents bodies contents' bodies' : List ℕ} {a : Answer} (read 
           subst (λ d. read_result (normal_form d file) contents bodies ≡ read_result file contents bodies) ok.1 (read_normal file contents bodies below ok.0)
 
       bytes : (d : Drawing) → IsFile file d → Below 256 (normal_form d file)
-      bytes d f = subst (Below 256) (sym (normal_form_is file d f.spelled)) (below_spelled byte_fields bytes_sensible (fields fileLayout.format d))
+      bytes d f = subst (Below 256) (sym (normal_form_is file d f.spelled)) (below_spelled byte_fields bytes_sensible (fields file_layout.format d))
 
 -- ---- a table
 
@@ -154,7 +154,7 @@ table_checked_lem {contents} {bodies} {a} below checks = record { checks = check
         let table = (drawing-of_table contents bodies below d).0 is in
         let rows : length contents ≡ 4 * rows_of d = ap length table.contents-are ∙ contents-length (outer d) d.version 0 0 (length (head_words d)) in
         let words : length bodies ≡ word_count d = ap length table.bodies-are in
-        let bytes = below_spelled byte_fields bytes_sensible (fields fileLayout.format d) in
+        let bytes = below_spelled byte_fields bytes_sensible (fields file_layout.format d) in
         record {
           file = file_of d;
           of-bytes = bytes;

@@ -15,9 +15,9 @@ use Rattle.promises.proofs.PromiseLaws.{opened}
 use Rattle.round_trip.specs.RoundTrip.{chars_shown, ShowsText}
 
 -- The chars of one of two runs are those of the one or of the other.
-pub chars-of : {A : Type 0} (charsOf : A → List ℕ) (t : Bool) (a p : A) {r : A} → r ≡ cond t a p → charsOf r ≡ cond t (charsOf a) (charsOf p)
-chars-of charsOf true a p is = ap charsOf is
-chars-of charsOf false a p is = ap charsOf is
+pub chars-of : {A : Type 0} (chars_of : A → List ℕ) (t : Bool) (a p : A) {r : A} → r ≡ cond t a p → chars_of r ≡ cond t (chars_of a) (chars_of p)
+chars-of chars_of true a p is = ap chars_of is
+chars-of chars_of false a p is = ap chars_of is
 
 module _ {contents bodies : List ℕ} {row : ℕ} {r : TextAnswer} (texts : Texts contents bodies row r) where
   -- The number by the drawing of the table.

@@ -79,6 +79,6 @@ module _ (cs ws : List ℕ) (v parent row at : ℕ) (there : 4 * row + 4 ≤ len
         let body : Walks (bytes_of (leaf_body v (letter_of kind))) (onward L (λ a q. met a q)) cs ws m m' (to + 2) r =
         body-walks (leaf_body v (letter_of kind)) (leaf_body v (letter_of kind)) (λ a. a) (λ a q. met a q) (λ a. a) cs ws (row_at cs row) kind parent (row + 1) at at below (omega arith) stands.inside
         (sym (and_then_found (parse Reading.words (leaf_body v (letter_of kind)) (drop at ws)))) (λ a q. refl) (λ a. refl) (row_stands 2 (omega arith) there stands) fields rowed in
-        walks-led {A = Leaf × String} {B = Object} {bytesIn = bytes_of (leaf_body v (letter_of kind))} {bytesOut = bytes_of (object v deep)} {walk = L} (λ a. leaf a.0 a.1) (digits 256 2 (letter_of kind)) (omega (arith, two))
+        walks-led {A = Leaf × String} {B = Object} {bytes_in = bytes_of (leaf_body v (letter_of kind))} {bytes_out = bytes_of (object v deep)} {walk = L} (λ a. leaf a.0 a.1) (digits 256 2 (letter_of kind)) (omega (arith, two))
         (put_written (digits 256 2 (letter_of kind)) (lettered ∙ ap (λ c. put to (digits 256 2 c) m₀) letter-is)) in_range_lem (bytes_are below deep)
         (subst (λ w. Walks (bytes_of (leaf_body v (letter_of kind))) w cs ws m m' (to + 2) r) (onward_met L) body)

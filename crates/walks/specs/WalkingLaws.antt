@@ -37,37 +37,37 @@ stands_ready {row = row} more inside stands =
 
 -- ---- what was walked over, as the definition's walk
 
-module _ {A : Type 0} {bytesIn : A → List ℕ} {walk : Walk A} {cs ws m m' : List ℕ} {to : ℕ} {r : Walked} where
-  pub walks-lost : walk ≡ lost → refused ≤ r.at → length m' ≡ length m → Walks bytesIn walk cs ws m m' to r
-  walks-lost is gone same = record { comes = subst (Comes bytesIn cs ws m m' to r) (sym is) gone; same_length = same }
+module _ {A : Type 0} {bytes_in : A → List ℕ} {walk : Walk A} {cs ws m m' : List ℕ} {to : ℕ} {r : Walked} where
+  pub walks-lost : walk ≡ lost → refused ≤ r.at → length m' ≡ length m → Walks bytes_in walk cs ws m m' to r
+  walks-lost is gone same = record { comes = subst (Comes bytes_in cs ws m m' to r) (sym is) gone; same_length = same }
 
-  pub walks_met : {a : A} {q : Place} → walk ≡ met a q → Met bytesIn cs ws m m' to r a q → Walks bytesIn walk cs ws m m' to r
-  walks_met is here = record { comes = subst (Comes bytesIn cs ws m m' to r) (sym is) here; same_length = here.written.same_length }
+  pub walks_met : {a : A} {q : Place} → walk ≡ met a q → Met bytes_in cs ws m m' to r a q → Walks bytes_in walk cs ws m m' to r
+  walks_met is here = record { comes = subst (Comes bytes_in cs ws m m' to r) (sym is) here; same_length = here.written.same_length }
 
 -- A walk that went on has met something, and one that did not is lost.
-pub record Over {A : Type 0} (bytesIn : A → List ℕ) (walk : Walk A) (cs ws m m' : List ℕ) (to : ℕ) (r : Walked) : Type 0 where
+pub record Over {A : Type 0} (bytes_in : A → List ℕ) (walk : Walk A) (cs ws m m' : List ℕ) (to : ℕ) (r : Walked) : Type 0 where
   pub value : A
   pub walk_is : walk ≡ met value (place_at cs ws r.row r.at)
-  pub here : Met bytesIn cs ws m m' to r value (place_at cs ws r.row r.at)
+  pub here : Met bytes_in cs ws m m' to r value (place_at cs ws r.row r.at)
 
-module _ {A : Type 0} {bytesIn : A → List ℕ} {walk : Walk A} {cs ws m m' : List ℕ} {to : ℕ} {r : Walked} (walks : Walks bytesIn walk cs ws m m' to r) where
-  pub walked_over : r.at < refused → Over bytesIn walk cs ws m m' to r
+module _ {A : Type 0} {bytes_in : A → List ℕ} {walk : Walk A} {cs ws m m' : List ℕ} {to : ℕ} {r : Walked} (walks : Walks bytes_in walk cs ws m m' to r) where
+  pub walked_over : r.at < refused → Over bytes_in walk cs ws m m' to r
   walked_over on = by walk refl walks.comes
     where
-      by : (w : Walk A) → walk ≡ w → Comes bytesIn cs ws m m' to r w → Over bytesIn walk cs ws m m' to r
+      by : (w : Walk A) → walk ≡ w → Comes bytes_in cs ws m m' to r w → Over bytes_in walk cs ws m m' to r
       by (met a q) is here =
-          record { value = a; walk_is = is ∙ ap (λ q. met a q) here.place_is; here = subst (Met bytesIn cs ws m m' to r a) here.place_is here }
+          record { value = a; walk_is = is ∙ ap (λ q. met a q) here.place_is; here = subst (Met bytes_in cs ws m m' to r a) here.place_is here }
       by lost is gone = absurd (omega (arith, on, gone))
 
   pub walk_gone : refused ≤ r.at → walk ≡ lost
   walk_gone gone = by walk refl walks.comes
     where
-      by : (w : Walk A) → walk ≡ w → Comes bytesIn cs ws m m' to r w → walk ≡ lost
+      by : (w : Walk A) → walk ≡ w → Comes bytes_in cs ws m m' to r w → walk ≡ lost
       by (met a q) is here = absurd (omega (arith, gone, here.next.inside, here.next.short))
       by lost is lost-here = is
 
   pub walk_refused : walk ≡ lost → refused ≤ r.at
-  walk_refused is = subst (Comes bytesIn cs ws m m' to r) is walks.comes
+  walk_refused is = subst (Comes bytes_in cs ws m m' to r) is walks.comes
 
 -- ---- one walk behind another
 
@@ -84,16 +84,16 @@ onward-onward (met a q) f g = refl
 onward-onward lost f g = refl
 
 -- The same walk for values made of the first ones, whose bytes stand behind others that were written before.
-pub walks-led : {A B : Type 0} {bytesIn : A → List ℕ} {bytesOut : B → List ℕ} {walk : Walk A} {walk' : Walk B} (make : A → B) (front : List ℕ) {cs ws m₀ m m' : List ℕ} {to₀ to : ℕ} {r : Walked}
+pub walks-led : {A B : Type 0} {bytes_in : A → List ℕ} {bytes_out : B → List ℕ} {walk : Walk A} {walk' : Walk B} (make : A → B) (front : List ℕ) {cs ws m₀ m m' : List ℕ} {to₀ to : ℕ} {r : Walked}
     → to ≡ to₀ + length front → Writes to₀ front m₀ m → walk' ≡ onward walk (λ a q. met (make a) q)
-    → ((a : A) (q : Place) → walk ≡ met a q → front ++ bytesIn a ≡ bytesOut (make a))
-    → Walks bytesIn walk cs ws m m' to r → Walks bytesOut walk' cs ws m₀ m' to₀ r
-walks-led {A} {B} {bytesIn} {bytesOut} {walk} {walk'} make front {cs} {ws} {m₀} {m} {m'} {to₀} {to} {r} place written made bytes walks = by walk refl walks.comes
+    → ((a : A) (q : Place) → walk ≡ met a q → front ++ bytes_in a ≡ bytes_out (make a))
+    → Walks bytes_in walk cs ws m m' to r → Walks bytes_out walk' cs ws m₀ m' to₀ r
+walks-led {A} {B} {bytes_in} {bytes_out} {walk} {walk'} make front {cs} {ws} {m₀} {m} {m'} {to₀} {to} {r} place written made bytes walks = by walk refl walks.comes
   where
-    by : (w : Walk A) → walk ≡ w → Comes bytesIn cs ws m m' to r w → Walks bytesOut walk' cs ws m₀ m' to₀ r
+    by : (w : Walk A) → walk ≡ w → Comes bytes_in cs ws m m' to r w → Walks bytes_out walk' cs ws m₀ m' to₀ r
     by (met a q) is here =
         let same = bytes a q is in
-        let sum = length-append front (bytesIn a) in
+        let sum = length-append front (bytes_in a) in
         walks_met (made ∙ ap (λ w. onward w (λ a q. met (make a) q)) is)
         (record {
           place_is = here.place_is;
@@ -125,14 +125,14 @@ module _ {A B C : Type 0} (L : Layout A) (G : Layout B) (make : A → B) (then :
       ∙ ap (λ k. onward (provided (equal words (Table.row kind parent at k)) (met (make a) (record { row = next; contents = (place_at cs ws next at).contents; at = at + k; bodies = drop end ws }))) then) used
       ∙ ap (λ k. onward (provided (equal words (Table.row kind parent at (end - at))) (met (make a) (record { row = next; contents = (place_at cs ws next at).contents; at = k; bodies = drop end ws }))) then) behind
 
-  pub body-walks : {bytesIn : C → List ℕ} {m m' : List ℕ} {to : ℕ} {b : Pass} {r : Walked} → ((a : A) → bytesIn (value a) ≡ bytes_of L a) → Stands cs ws next at to
-      → Laid L.format way ws m m' place to b.at b.to → Rowed words kind parent at next b r → Walks bytesIn walk_here cs ws m m' to r
-  body-walks {bytesIn} {m} {m'} {to} {b} {r} bytes stands laid rowed = by (ltb b.at refused) refl
+  pub body-walks : {bytes_in : C → List ℕ} {m m' : List ℕ} {to : ℕ} {b : Pass} {r : Walked} → ((a : A) → bytes_in (value a) ≡ bytes_of L a) → Stands cs ws next at to
+      → Laid L.format way ws m m' place to b.at b.to → Rowed words kind parent at next b r → Walks bytes_in walk_here cs ws m m' to r
+  body-walks {bytes_in} {m} {m'} {to} {b} {r} bytes stands laid rowed = by (ltb b.at refused) refl
     where
       same : length m' ≡ length m
       same = laid.carried.same_length
 
-      right_or_wrong : b.at < refused → (t : Bool) → equal words (Table.row kind parent at (b.at - at)) ≡ t → Walks bytesIn (onward (body G kind parent words (place_at cs ws next at)) then) cs ws m m' to r
+      right_or_wrong : b.at < refused → (t : Bool) → equal words (Table.row kind parent at (b.at - at)) ≡ t → Walks bytes_in (onward (body G kind parent words (place_at cs ws next at)) then) cs ws m m' to r
       right_or_wrong on false e =
           let f = body-found L below inside laid on in
           walks-lost
@@ -141,7 +141,7 @@ module _ {A B C : Type 0} (L : Layout A) (G : Layout B) (make : A → B) (then :
       right_or_wrong on true e =
           let f = body-found L below inside laid on in
           let is = rowed.right on e in
-          let here : Met bytesIn cs ws m m' to (record { row = next; at = b.at; to = b.to }) (value f.0) (place_at cs ws next b.at) =
+          let here : Met bytes_in cs ws m m' to (record { row = next; at = b.at; to = b.to }) (value f.0) (place_at cs ws next b.at) =
           record {
             place_is = refl;
             to_is = f.1.to_is ∙ ap (λ l. to + length l) (sym (bytes f.0));
@@ -157,8 +157,8 @@ module _ {A B C : Type 0} (L : Layout A) (G : Layout B) (make : A → B) (then :
           } in
           walks_met
           (by_row b.at f.0 (omega (arith, f.1.at-is)) f.1.inside f.1.parsed ∙ ap (λ t. onward (provided t (met (make f.0) (place_at cs ws next b.at))) then) e ∙ whole f.0 (place_at cs ws next b.at))
-          (subst (λ r. Met bytesIn cs ws m m' to r (value f.0) (place_at cs ws next b.at)) (sym is) here)
+          (subst (λ r. Met bytes_in cs ws m m' to r (value f.0) (place_at cs ws next b.at)) (sym is) here)
 
-      by : (t : Bool) → ltb b.at refused ≡ t → Walks bytesIn (onward (body G kind parent words (place_at cs ws next at)) then) cs ws m m' to r
+      by : (t : Bool) → ltb b.at refused ≡ t → Walks bytes_in (onward (body G kind parent words (place_at cs ws next at)) then) cs ws m m' to r
       by true e = right_or_wrong (ltb-true b.at refused e) (equal words (Table.row kind parent at (b.at - at))) refl
       by false e = let gone = ltb-false b.at refused e in walks-lost (body-lost (body_unfound L below inside laid gone)) (rowed.gone gone) same

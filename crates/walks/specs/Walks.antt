@@ -34,19 +34,19 @@ pub record Stands (cs ws : List ℕ) (row at to : ℕ) : Type 0 where
   pub few : to ≤ 64 + 8 * at + 8 * row
 
 -- The walk has met something: it goes on behind it, and where its bytes fit they stand in the memory.
-pub record Met {A : Type 0} (bytesIn : A → List ℕ) (cs ws m m' : List ℕ) (to : ℕ) (r : Walked) (a : A) (q : Place) : Type 0 where
+pub record Met {A : Type 0} (bytes_in : A → List ℕ) (cs ws m m' : List ℕ) (to : ℕ) (r : Walked) (a : A) (q : Place) : Type 0 where
   pub place_is : q ≡ place_at cs ws r.row r.at
-  pub to_is : r.to ≡ to + length (bytesIn a)
-  pub written : Writes to (bytesIn a) m m'
+  pub to_is : r.to ≡ to + length (bytes_in a)
+  pub written : Writes to (bytes_in a) m m'
   pub next : Stands cs ws r.row r.at r.to
 
 abbrev pub Comes : {A : Type 0} → (A → List ℕ) → (cs ws m m' : List ℕ) → (to : ℕ) → Walked → Walk A → Type 0
-Comes bytesIn cs ws m m' to r (met a q) = Met bytesIn cs ws m m' to r a q
-Comes bytesIn cs ws m m' to r lost = refused ≤ r.at
+Comes bytes_in cs ws m m' to r (met a q) = Met bytes_in cs ws m m' to r a q
+Comes bytes_in cs ws m m' to r lost = refused ≤ r.at
 
 -- The code has walked as the definition does.
-pub record Walks {A : Type 0} (bytesIn : A → List ℕ) (walk : Walk A) (cs ws m m' : List ℕ) (to : ℕ) (r : Walked) : Type 0 where
-  pub comes : Comes bytesIn cs ws m m' to r walk
+pub record Walks {A : Type 0} (bytes_in : A → List ℕ) (walk : Walk A) (cs ws m m' : List ℕ) (to : ℕ) (r : Walked) : Type 0 where
+  pub comes : Comes bytes_in cs ws m m' to r walk
   pub same_length : length m' ≡ length m
 
 -- ---- objects

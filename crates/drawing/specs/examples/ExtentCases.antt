@@ -10,7 +10,7 @@ use Rattle.drawing.specs.Extent.{ExtentGiven, no_extent, extent_of}
 use Rattle.drawing.specs.examples.Bytes.{at}
 
 abbrev from : ℕ → ℕ → List Segment → Outline
-from x y ss = record { openOrClosed = code "O"; start = at x y; segments = ss }
+from x y ss = record { open_or_closed = code "O"; start = at x y; segments = ss }
 
 -- the bits of doubles
 abbrev plus_zero : ℕ

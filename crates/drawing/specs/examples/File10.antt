@@ -31,7 +31,7 @@ settings_fields =
 abbrev settings_value : Settings
 settings_value =
     all
-    (record { grid = 1; lock = 0; rulers = 0; tool = 7; normalSize = 0xFFFF_FFFE; paper = record { size = 18; width = 0x4072_C000_0000_0001; height = 0xC082_C000_0000_0002; portrait = 1 }; unit = 3; major = 0x0102_0304; minor = 0x8000_0000 })
+    (record { grid = 1; lock = 0; rulers = 0; tool = 7; normal_size = 0xFFFF_FFFE; paper = record { size = 18; width = 0x4072_C000_0000_0001; height = 0xC082_C000_0000_0002; portrait = 1 }; unit = 3; major = 0x0102_0304; minor = 0x8000_0000 })
 
 -- ---- row 1: an open path with dashes, a mitre limit and two arrows
 
@@ -57,22 +57,22 @@ open_fields =
 abbrev open_value : Path
 open_value =
     record {
-      linePaint = plain (rgb 0x3F00_0001 0x3F00_0002 0x3F00_0003 0x3F80_0000);
-      fillPaint = plain (cmyk 0x0000_0000 0x8000_0000 0x0000_0001 0x3F7F_FFFF 0x3E00_0004);
+      line_paint = plain (rgb 0x3F00_0001 0x3F00_0002 0x3F00_0003 0x3F80_0000);
+      fill_paint = plain (cmyk 0x0000_0000 0x8000_0000 0x0000_0001 0x3F7F_FFFF 0x3E00_0004);
       style = record {
         width = 0xBF80_0000;
         dashes = 0x4000_0005 ∷ 0x7FC0_0006 ∷ [];
-        dashOffset = 0x4000_0007;
+        dash_offset = 0x4000_0007;
         cap = 1;
         join = 0;
-        mitreLimit = 0x4000_0008;
+        mitre_limit = 0x4000_0008;
         winding = 1;
-        start = record { id = 7; size = 0x4000_0009; double = 1; repeat = 0; reversed = 0; angle = none; paint = transparent; overlay = 0; offset = none; repeatOffset = none } ∷ [];
+        start = record { id = 7; size = 0x4000_0009; double = 1; repeat = 0; reversed = 0; angle = none; paint = transparent; overlay = 0; offset = none; repeat_offset = none } ∷ [];
         mid = [];
-        end = record { id = 1; size = 0x4000_000A; double = 0; repeat = 0; reversed = 1; angle = none; paint = transparent; overlay = 0; offset = none; repeatOffset = none } ∷ [];
+        end = record { id = 1; size = 0x4000_000A; double = 0; repeat = 0; reversed = 1; angle = none; paint = transparent; overlay = 0; offset = none; repeat_offset = none } ∷ [];
       };
       outline = record {
-        openOrClosed = code "O";
+        open_or_closed = code "O";
         start = at 0 0;
         segments = curve (at 0x11_0000_0021 0x12_0000_0022) (at 0x13_0000_0023 0x14_0000_0024) (at 0x15_0000_0025 0x16_0000_0026) (at 0x7FF0_0000_0000_0001 0x17_0000_0027)
             ∷ line (at 0x7FF0_0000_0000_0001 0x17_0000_0027) (at 0x18_0000_0028 0x19_0000_0029)
@@ -138,11 +138,11 @@ closed_fields =
 abbrev closed_value : Path
 closed_value =
     record {
-      linePaint = plain transparent;
-      fillPaint = linear (rgb 0x3E80_0001 0x3E80_0002 0x3E80_0003 0x3E80_0004) (cmyk 0x3E80_0005 0x3E80_0006 0x3E80_0007 0x3E80_0008 0x3E80_0009) 7;
-      style = record { width = 0x4000_000B; dashes = []; dashOffset = 0; cap = 2; join = 1; mitreLimit = 0; winding = 0; start = []; mid = []; end = [] };
+      line_paint = plain transparent;
+      fill_paint = linear (rgb 0x3E80_0001 0x3E80_0002 0x3E80_0003 0x3E80_0004) (cmyk 0x3E80_0005 0x3E80_0006 0x3E80_0007 0x3E80_0008 0x3E80_0009) 7;
+      style = record { width = 0x4000_000B; dashes = []; dash_offset = 0; cap = 2; join = 1; mitre_limit = 0; winding = 0; start = []; mid = []; end = [] };
       outline = record {
-        openOrClosed = code "C";
+        open_or_closed = code "C";
         start = at 0 0;
         segments = line (at 0x71_0000_0081 0x72_0000_0082) (at 0x73_0000_0083 0x74_0000_0084) ∷ [];
       };

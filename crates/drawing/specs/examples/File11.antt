@@ -45,24 +45,24 @@ first_fields =
 abbrev first_value : Path
 first_value =
     record {
-      linePaint = plain (cmyk 0x3F00_0001 0x3F00_0002 0x3F00_0003 0x3F00_0004 0x3F00_0005);
-      fillPaint = linear transparent (rgb 0x3F00_0006 0x3F00_0007 0x3F00_0008 0x3F00_0009) 0;
+      line_paint = plain (cmyk 0x3F00_0001 0x3F00_0002 0x3F00_0003 0x3F00_0004 0x3F00_0005);
+      fill_paint = linear transparent (rgb 0x3F00_0006 0x3F00_0007 0x3F00_0008 0x3F00_0009) 0;
       style = record {
         width = 0x4000_0001;
         dashes = 0x4000_0002 ∷ 0x4000_0003 ∷ 0x4000_0004 ∷ 0x4000_0005 ∷ [];
-        dashOffset = 0x4000_0006;
+        dash_offset = 0x4000_0006;
         cap = 0;
         join = 0;
-        mitreLimit = 0x4000_0007;
+        mitre_limit = 0x4000_0007;
         winding = 0;
         start = [];
-        mid = record { id = 21; size = 0x4000_0011; double = 0; repeat = 3; reversed = 1; angle = some 0x4000_0012; paint = rgb 0x3F00_000A 0x3F00_000B 0x3F00_000C 0x3F00_000D; overlay = 1; offset = none; repeatOffset = none } ∷ [];
-        end = record { id = 1; size = 0x4000_0013; double = 0; repeat = 1; reversed = 0; angle = none; paint = transparent; overlay = 0; offset = none; repeatOffset = none }
-            ∷ record { id = 2; size = 0x4000_0014; double = 0; repeat = 2; reversed = 0; angle = some 0x4000_0015; paint = cmyk 0x3F00_000E 0x3F00_000F 0x3F00_0010 0x3F00_0011 0x3F00_0012; overlay = 1; offset = none; repeatOffset = none }
+        mid = record { id = 21; size = 0x4000_0011; double = 0; repeat = 3; reversed = 1; angle = some 0x4000_0012; paint = rgb 0x3F00_000A 0x3F00_000B 0x3F00_000C 0x3F00_000D; overlay = 1; offset = none; repeat_offset = none } ∷ [];
+        end = record { id = 1; size = 0x4000_0013; double = 0; repeat = 1; reversed = 0; angle = none; paint = transparent; overlay = 0; offset = none; repeat_offset = none }
+            ∷ record { id = 2; size = 0x4000_0014; double = 0; repeat = 2; reversed = 0; angle = some 0x4000_0015; paint = cmyk 0x3F00_000E 0x3F00_000F 0x3F00_0010 0x3F00_0011 0x3F00_0012; overlay = 1; offset = none; repeat_offset = none }
             ∷ [];
       };
       outline = record {
-        openOrClosed = code "C";
+        open_or_closed = code "C";
         start = at 0 0;
         segments = move (at 0x8000_0000_0000_0011 0x12_0000_0022) (at 0x7FF8_0000_0000_0023 0xFFF8_0000_0000_0024)
             ∷ curve (at 0x7FF8_0000_0000_0023 0xFFF8_0000_0000_0024) (at 0x15_0000_0025 0x16_0000_0026) (at 0x17_0000_0027 0x18_0000_0028) (at 0x19_0000_0029 0x1A_0000_002A)
@@ -95,31 +95,31 @@ second_fields =
 -- A marker of this path, without the fields of other versions.
 abbrev mark : (id size repeat reversed : ℕ) → Option ℕ → (overlay : ℕ) → Marker
 mark id size repeat reversed angle overlay =
-    record { id = id; size = size; double = 0; repeat = repeat; reversed = reversed; angle = angle; paint = transparent; overlay = overlay; offset = none; repeatOffset = none }
+    record { id = id; size = size; double = 0; repeat = repeat; reversed = reversed; angle = angle; paint = transparent; overlay = overlay; offset = none; repeat_offset = none }
 
 abbrev second_value : Path
 second_value =
     record {
-      linePaint = plain transparent;
-      fillPaint = plain (rgb 0x3E00_0001 0x3E00_0002 0x3E00_0003 0x3E00_0004);
+      line_paint = plain transparent;
+      fill_paint = plain (rgb 0x3E00_0001 0x3E00_0002 0x3E00_0003 0x3E00_0004);
       style = record {
         width = 0x4100_0001;
         dashes = [];
-        dashOffset = 0;
+        dash_offset = 0;
         cap = 1;
         join = 2;
-        mitreLimit = 0;
+        mitre_limit = 0;
         winding = 1;
         start = mark 3 0x4100_0002 1 0 none 1
             ∷ mark 4 0x4100_0003 2 1 none 0
             ∷ mark 5 0x4100_0004 3 0 (some 0x4100_0005) 0
-            ∷ record { id = 6; size = 0x4100_0006; double = 0; repeat = 1; reversed = 1; angle = none; paint = rgb 0x3E00_0005 0x3E00_0006 0x3E00_0007 0x3E00_0008; overlay = 1; offset = none; repeatOffset = none }
+            ∷ record { id = 6; size = 0x4100_0006; double = 0; repeat = 1; reversed = 1; angle = none; paint = rgb 0x3E00_0005 0x3E00_0006 0x3E00_0007 0x3E00_0008; overlay = 1; offset = none; repeat_offset = none }
             ∷ [];
         mid = mark 7 0x4100_0007 2 0 none 0 ∷ mark 8 0x4100_0008 3 1 (some 0x4100_0009) 1 ∷ [];
         end = mark 9 0x4100_000A 1 0 (some 0x4100_000B) 0 ∷ [];
       };
       outline = record {
-        openOrClosed = code "O";
+        open_or_closed = code "O";
         start = at 0 0;
         segments = move (at 0x31_0000_0041 0x32_0000_0042) (at 0x33_0000_0043 0x34_0000_0044) ∷ [];
       };

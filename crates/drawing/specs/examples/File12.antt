@@ -33,7 +33,7 @@ settings_fields =
 abbrev settings_value : Settings
 settings_value =
     all
-    (record { grid = 0; lock = 1; rulers = 0; tool = 6; normalSize = 24; paper = record { size = 17; width = 0; height = 0; portrait = 0 }; unit = 0; major = 3; minor = 5 })
+    (record { grid = 0; lock = 1; rulers = 0; tool = 6; normal_size = 24; paper = record { size = 17; width = 0; height = 0; portrait = 0 }; unit = 0; major = 3; minor = 5 })
 
 -- ---- row 1: a bitmap with the description x
 
@@ -88,22 +88,22 @@ marked_fields =
 abbrev marked_value : Path
 marked_value =
     record {
-      linePaint = plain transparent;
-      fillPaint = plain (cmyk 0x3E00_0000 0x3EC0_0000 0x3F20_0000 0x3F60_0000 0x8000_0000);
+      line_paint = plain transparent;
+      fill_paint = plain (cmyk 0x3E00_0000 0x3EC0_0000 0x3F20_0000 0x3F60_0000 0x8000_0000);
       style = record {
         width = 0x4000_0001;
         dashes = 0x4000_0002 ∷ 0x4000_0003 ∷ [];
-        dashOffset = 0x4000_0004;
+        dash_offset = 0x4000_0004;
         cap = 1;
         join = 2;
-        mitreLimit = 0;
+        mitre_limit = 0;
         winding = 0;
         start = [];
-        mid = record { id = 20; size = 0x4000_0005; double = 0; repeat = 2; reversed = 1; angle = none; paint = cmyk 0x3F00_0001 0x3F00_0002 0x3F00_0003 0x3F00_0004 0x3F00_0005; overlay = 0; offset = none; repeatOffset = none } ∷ [];
+        mid = record { id = 20; size = 0x4000_0005; double = 0; repeat = 2; reversed = 1; angle = none; paint = cmyk 0x3F00_0001 0x3F00_0002 0x3F00_0003 0x3F00_0004 0x3F00_0005; overlay = 0; offset = none; repeat_offset = none } ∷ [];
         end = [];
       };
       outline = record {
-        openOrClosed = code "O";
+        open_or_closed = code "O";
         start = at 0 0;
         segments = line (at 0x51_0000_0061 0x52_0000_0062) (at 0x53_0000_0063 0x54_0000_0064)
             ∷ move (at 0x53_0000_0063 0x54_0000_0064) (at 0x55_0000_0065 0x56_0000_0066)

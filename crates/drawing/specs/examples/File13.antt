@@ -32,7 +32,7 @@ settings_fields =
 abbrev settings_value : Settings
 settings_value =
     all
-    (record { grid = 0; lock = 0; rulers = 1; tool = 5; normalSize = 0x8000_0001; paper = record { size = 72; width = 0; height = 0; portrait = 0 }; unit = 2; major = 0xFFFF_FFFF; minor = 0x7FFF_FFFF })
+    (record { grid = 0; lock = 0; rulers = 1; tool = 5; normal_size = 0x8000_0001; paper = record { size = 72; width = 0; height = 0; portrait = 0 }; unit = 2; major = 0xFFFF_FFFF; minor = 0x7FFF_FFFF })
 
 -- ---- row 3: an open path of all three kinds of segment, with two start markers and one end marker
 
@@ -62,24 +62,24 @@ open_fields =
 abbrev open_value : Path
 open_value =
     record {
-      linePaint = plain (rgb 0x3F00_0000 0x3F80_0000 0x3E80_0000 0x3F40_0000);
-      fillPaint = radial (rgb 0x3E00_0000 0x3EC0_0000 0x3F20_0000 0x3F60_0000) (cmyk 0x3D80_0000 0x3E40_0000 0x3EA0_0000 0x3EE0_0000 0x8000_0000) 8;
+      line_paint = plain (rgb 0x3F00_0000 0x3F80_0000 0x3E80_0000 0x3F40_0000);
+      fill_paint = radial (rgb 0x3E00_0000 0x3EC0_0000 0x3F20_0000 0x3F60_0000) (cmyk 0x3D80_0000 0x3E40_0000 0x3EA0_0000 0x3EE0_0000 0x8000_0000) 8;
       style = record {
         width = 0x4000_0001;
         dashes = 0x4000_0002 ∷ 0x4000_0003 ∷ [];
-        dashOffset = 0x4000_0004;
+        dash_offset = 0x4000_0004;
         cap = 2;
         join = 0;
-        mitreLimit = 0x4000_0005;
+        mitre_limit = 0x4000_0005;
         winding = 1;
-        start = record { id = 20; size = 0x4000_0006; double = 0; repeat = 3; reversed = 0; angle = some 0x4000_0007; paint = rgb 0x3F00_0001 0x3F00_0002 0x3F00_0003 0x3F00_0004; overlay = 0; offset = none; repeatOffset = none }
-            ∷ record { id = 19; size = 0x4000_0008; double = 0; repeat = 2; reversed = 1; angle = none; paint = transparent; overlay = 1; offset = none; repeatOffset = none }
+        start = record { id = 20; size = 0x4000_0006; double = 0; repeat = 3; reversed = 0; angle = some 0x4000_0007; paint = rgb 0x3F00_0001 0x3F00_0002 0x3F00_0003 0x3F00_0004; overlay = 0; offset = none; repeat_offset = none }
+            ∷ record { id = 19; size = 0x4000_0008; double = 0; repeat = 2; reversed = 1; angle = none; paint = transparent; overlay = 1; offset = none; repeat_offset = none }
             ∷ [];
         mid = [];
-        end = record { id = 21; size = 0x4000_0009; double = 0; repeat = 1; reversed = 1; angle = some 0x7FC0_000A; paint = transparent; overlay = 0; offset = none; repeatOffset = none } ∷ [];
+        end = record { id = 21; size = 0x4000_0009; double = 0; repeat = 1; reversed = 1; angle = some 0x7FC0_000A; paint = transparent; overlay = 0; offset = none; repeat_offset = none } ∷ [];
       };
       outline = record {
-        openOrClosed = code "O";
+        open_or_closed = code "O";
         start = at 0x11_0000_0021 0x7FF8_0000_0000_0022;
         segments = curve (at 0 0) (at 0x13_0000_0023 0x14_0000_0024) (at 0x15_0000_0025 0x16_0000_0026) (at 0x17_0000_0027 0x18_0000_0028)
             ∷ move (at 0 0) (at 0x19_0000_0029 0x1A_0000_002A)
@@ -141,11 +141,11 @@ closed_fields =
 abbrev closed_value : Path
 closed_value =
     record {
-      linePaint = linear (cmyk 0x3D00_0001 0x3D00_0002 0x3D00_0003 0x3D00_0004 0x3D00_0005) transparent 2;
-      fillPaint = plain transparent;
-      style = record { width = 0x4000_000B; dashes = []; dashOffset = 0; cap = 0; join = 2; mitreLimit = 0; winding = 0; start = []; mid = []; end = [] };
+      line_paint = linear (cmyk 0x3D00_0001 0x3D00_0002 0x3D00_0003 0x3D00_0004 0x3D00_0005) transparent 2;
+      fill_paint = plain transparent;
+      style = record { width = 0x4000_000B; dashes = []; dash_offset = 0; cap = 0; join = 2; mitre_limit = 0; winding = 0; start = []; mid = []; end = [] };
       outline = record {
-        openOrClosed = code "C";
+        open_or_closed = code "C";
         start = at 0x91_0000_00A1 0x92_0000_00A2;
         segments = line (at 0 0) (at 0x93_0000_00A3 0x94_0000_00A4) ∷ [];
       };

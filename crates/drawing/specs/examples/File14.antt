@@ -14,7 +14,7 @@ use Rattle.drawing.specs.Paint.{transparent, rgb, cmyk, grey, hsb, plain, linear
 use Rattle.drawing.specs.Path.{Path, curve, line, move}
 use Rattle.drawing.specs.Text.{Text}
 use Rattle.drawing.specs.Bitmap.{Bitmap}
-use Rattle.drawing.specs.Settings.{paperOnly}
+use Rattle.drawing.specs.Settings.{paper_only}
 use Rattle.drawing.specs.Object.{path, text, bitmap, leaf, group, of_list}
 use Rattle.drawing.specs.Drawing.{Drawing}
 use Rattle.drawing.specs.Order.{entries, groups_around}
@@ -53,28 +53,28 @@ marked_fields =
 abbrev marked_value : Path
 marked_value =
     record {
-      linePaint = plain (grey 0x3F00_0000 0x3F80_0000);
-      fillPaint = plain (hsb 0x4334_0000 0x3E80_0000 0x3F40_0000 0x3E00_0000);
+      line_paint = plain (grey 0x3F00_0000 0x3F80_0000);
+      fill_paint = plain (hsb 0x4334_0000 0x3E80_0000 0x3F40_0000 0x3E00_0000);
       style = record {
         width = 0x4000_0001;
         dashes = [];
-        dashOffset = 0;
+        dash_offset = 0;
         cap = 1;
         join = 0;
-        mitreLimit = 0x4000_0002;
+        mitre_limit = 0x4000_0002;
         winding = 0;
-        start = record { id = 79; size = 0x4000_0003; double = 0; repeat = 1; reversed = 0; angle = none; paint = grey 0x3F00_0001 0x3F00_0002; overlay = 0; offset = none; repeatOffset = none }
-            ∷ record { id = 78; size = 0x4000_0004; double = 0; repeat = 2; reversed = 1; angle = some 0x4000_0005; paint = hsb 0x43B3_FFFF 0x3F00_0003 0x3F00_0004 0x3F00_0005; overlay = 0; offset = some 0x4000_0006; repeatOffset = none }
-            ∷ record { id = 22; size = 0x4000_0007; double = 0; repeat = 3; reversed = 0; angle = none; paint = transparent; overlay = 0; offset = none; repeatOffset = some 0x4000_0008 }
-            ∷ record { id = 23; size = 0x4000_0009; double = 0; repeat = 1; reversed = 1; angle = some 0x4000_000A; paint = rgb 0x3F00_0006 0x3F00_0007 0x3F00_0008 0x3F00_0009; overlay = 0; offset = some 0x4000_000B; repeatOffset = some 0x4000_000C }
+        start = record { id = 79; size = 0x4000_0003; double = 0; repeat = 1; reversed = 0; angle = none; paint = grey 0x3F00_0001 0x3F00_0002; overlay = 0; offset = none; repeat_offset = none }
+            ∷ record { id = 78; size = 0x4000_0004; double = 0; repeat = 2; reversed = 1; angle = some 0x4000_0005; paint = hsb 0x43B3_FFFF 0x3F00_0003 0x3F00_0004 0x3F00_0005; overlay = 0; offset = some 0x4000_0006; repeat_offset = none }
+            ∷ record { id = 22; size = 0x4000_0007; double = 0; repeat = 3; reversed = 0; angle = none; paint = transparent; overlay = 0; offset = none; repeat_offset = some 0x4000_0008 }
+            ∷ record { id = 23; size = 0x4000_0009; double = 0; repeat = 1; reversed = 1; angle = some 0x4000_000A; paint = rgb 0x3F00_0006 0x3F00_0007 0x3F00_0008 0x3F00_0009; overlay = 0; offset = some 0x4000_000B; repeat_offset = some 0x4000_000C }
             ∷ [];
-        mid = record { id = 24; size = 0x4000_000D; double = 0; repeat = 2; reversed = 0; angle = none; paint = cmyk 0x3F00_000A 0x3F00_000B 0x3F00_000C 0x3F00_000D 0x3F00_000E; overlay = 1; offset = none; repeatOffset = none } ∷ [];
-        end = record { id = 25; size = 0x4000_000E; double = 0; repeat = 3; reversed = 1; angle = none; paint = transparent; overlay = 1; offset = none; repeatOffset = none }
-            ∷ record { id = 26; size = 0x4000_000F; double = 0; repeat = 1; reversed = 0; angle = none; paint = transparent; overlay = 0; offset = some 0x4000_0010; repeatOffset = none }
+        mid = record { id = 24; size = 0x4000_000D; double = 0; repeat = 2; reversed = 0; angle = none; paint = cmyk 0x3F00_000A 0x3F00_000B 0x3F00_000C 0x3F00_000D 0x3F00_000E; overlay = 1; offset = none; repeat_offset = none } ∷ [];
+        end = record { id = 25; size = 0x4000_000E; double = 0; repeat = 3; reversed = 1; angle = none; paint = transparent; overlay = 1; offset = none; repeat_offset = none }
+            ∷ record { id = 26; size = 0x4000_000F; double = 0; repeat = 1; reversed = 0; angle = none; paint = transparent; overlay = 0; offset = some 0x4000_0010; repeat_offset = none }
             ∷ [];
       };
       outline = record {
-        openOrClosed = code "O";
+        open_or_closed = code "O";
         start = at 0x11_0000_0021 0x12_0000_0022;
         segments = move (at 0 0) (at 0x13_0000_0023 0x14_0000_0024) ∷ [];
       };
@@ -96,11 +96,11 @@ gradient_fields =
 abbrev gradient_value : Path
 gradient_value =
     record {
-      linePaint = linear (grey 0x3EC0_0000 0x3F20_0000) (hsb 0x8000_0000 0x3F60_0000 0x3D80_0000 0x3E40_0000) 7;
-      fillPaint = radial (hsb 0x0000_0000 0x3EA0_0000 0x3EE0_0000 0x3F10_0000) (grey 0x3F30_0000 0x3F50_0000) 5;
-      style = record { width = 0x4100_0001; dashes = 0x4100_0002 ∷ 0x4100_0003 ∷ []; dashOffset = 0x4100_0004; cap = 2; join = 1; mitreLimit = 0; winding = 1; start = []; mid = []; end = [] };
+      line_paint = linear (grey 0x3EC0_0000 0x3F20_0000) (hsb 0x8000_0000 0x3F60_0000 0x3D80_0000 0x3E40_0000) 7;
+      fill_paint = radial (hsb 0x0000_0000 0x3EA0_0000 0x3EE0_0000 0x3F10_0000) (grey 0x3F30_0000 0x3F50_0000) 5;
+      style = record { width = 0x4100_0001; dashes = 0x4100_0002 ∷ 0x4100_0003 ∷ []; dash_offset = 0x4100_0004; cap = 2; join = 1; mitre_limit = 0; winding = 1; start = []; mid = []; end = [] };
       outline = record {
-        openOrClosed = code "C";
+        open_or_closed = code "C";
         start = at 0x31_0000_0041 0x32_0000_0042;
         segments = line (at 0 0) (at 0x33_0000_0043 0x34_0000_0044)
             ∷ curve (at 0 0) (at 0x35_0000_0045 0x36_0000_0046) (at 0x37_0000_0047 0x38_0000_0048) (at 0x39_0000_0049 0x3A_0000_004A)
@@ -164,7 +164,7 @@ abbrev tree : Drawing
 tree =
     record {
       version = 4;
-      settings = paperOnly (record { size = 18; width = 0x4072_C000_0000_0001; height = 0xC082_C000_0000_0002; portrait = 0 });
+      settings = paper_only (record { size = 18; width = 0x4072_C000_0000_0001; height = 0xC082_C000_0000_0002; portrait = 0 });
       members = of_list
           (group (of_list (group (of_list (leaf (path marked_value) [] ∷ [])) (codes "c") ∷ leaf (path gradient_value) (codes "a") ∷ [])) (codes "bb")
           ∷ leaf (text text_value) (codes "ab")

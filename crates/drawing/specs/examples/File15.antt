@@ -56,7 +56,7 @@ aisle_value =
         text = codes "why";
       };
       outline = record {
-        openOrClosed = code "O";
+        open_or_closed = code "O";
         start = at 0x11_0000_0021 0x12_0000_0022;
         segments = curve (at 0 0) (at 0x13_0000_0023 0x14_0000_0024) (at 0x15_0000_0025 0x16_0000_0026) (at 0x17_0000_0027 0x18_0000_0028)
             ∷ line (at 0 0) (at 0x19_0000_0029 0x1A_0000_002A)
@@ -90,7 +90,7 @@ ring_value =
         text = codes "z";
       };
       outline = record {
-        openOrClosed = code "C";
+        open_or_closed = code "C";
         start = at 0x31_0000_0041 0x32_0000_0042;
         segments = line (at 0 0) (at 0x33_0000_0043 0x34_0000_0044) ∷ [];
       };
@@ -109,22 +109,22 @@ path_fields =
 abbrev path_value : Path
 path_value =
     record {
-      linePaint = plain (grey 0x3F00_0000 0x3F80_0000);
-      fillPaint = plain transparent;
+      line_paint = plain (grey 0x3F00_0000 0x3F80_0000);
+      fill_paint = plain transparent;
       style = record {
         width = 0x4000_0001;
         dashes = [];
-        dashOffset = 0;
+        dash_offset = 0;
         cap = 1;
         join = 1;
-        mitreLimit = 0;
+        mitre_limit = 0;
         winding = 0;
-        start = record { id = 79; size = 0x4000_0003; double = 0; repeat = 1; reversed = 0; angle = none; paint = grey 0x3F00_0001 0x3F00_0002; overlay = 0; offset = some 0x4000_0006; repeatOffset = none } ∷ [];
+        start = record { id = 79; size = 0x4000_0003; double = 0; repeat = 1; reversed = 0; angle = none; paint = grey 0x3F00_0001 0x3F00_0002; overlay = 0; offset = some 0x4000_0006; repeat_offset = none } ∷ [];
         mid = [];
         end = [];
       };
       outline = record {
-        openOrClosed = code "C";
+        open_or_closed = code "C";
         start = at 0x91_0000_00A1 0x92_0000_00A2;
         segments = move (at 0 0) (at 0x93_0000_00A3 0x94_0000_00A4) ∷ [];
       };

@@ -17,7 +17,7 @@ pub record Whole (file : List ℕ) (tree : Drawing) (contents bodies : List ℕ)
 
 -- With another byte for true in each flag the file is read as the same drawing, and its normal form is the file. With another word for true in each flag
 -- of its bodies the table is none.
-pub record Respelled (other file : List ℕ) (tree : Drawing) (contents otherBodies : List ℕ) : Type 0 where
+pub record Respelled (other file : List ℕ) (tree : Drawing) (contents other_bodies : List ℕ) : Type 0 where
   pub reads : drawing_of other ≡ drawing tree
   pub made : normal_form tree other ≡ file
-  pub strict : drawing_of_table contents otherBodies ≡ none
+  pub strict : drawing_of_table contents other_bodies ≡ none

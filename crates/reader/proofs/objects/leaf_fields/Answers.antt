@@ -6,7 +6,7 @@ use Prim.Native.Nat.{◌*◌, ◌-◌}
 use Rattle.reader.specs.BodyLaws.{body_grows, row_room, rowed_stopped, rowed_stored}
 use Rattle.format.specs.Pass.{put}
 use Rattle.format.specs.LeafLaws.{known_below}
-use Rattle.drawing.specs.Table.{row as rowWords}
+use Rattle.drawing.specs.Table.{row as row_words}
 use Rattle.drawing.specs.LeafLayout.{leaf_body}
 use Rattle.reader.proofs.objects.leaf_fields.Goals as goal
 
@@ -23,4 +23,4 @@ put_row-requires c =
 
 pub returns : goal.returns
 returns c =
-    rowed_stored c.leaf_body-behind.ensures (c.put_row.ensures ∙ ap (λ k. put (4 * c.args.row) (rowWords k c.args.parent c.args.to (c.leaf_body-behind.result.to - c.args.to)) c.args.contents.now) c.leaf_kind.ensures)
+    rowed_stored c.leaf_body-behind.ensures (c.put_row.ensures ∙ ap (λ k. put (4 * c.args.row) (row_words k c.args.parent c.args.to (c.leaf_body-behind.result.to - c.args.to)) c.args.contents.now) c.leaf_kind.ensures)
