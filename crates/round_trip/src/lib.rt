@@ -1,5 +1,5 @@
 // Demand 2 of the calls themselves: what is read comes back when it is written, with each true flag made 1, what is written comes back when it is read, and a
-// table is checked with 0 exactly when some file gives it. And the text to show of a row, found by two calls. `sheets` has round trips of
+// table is checked with 0 exactly when some file gives it. And the text to show of a row, found by two calls. `sheet_trips` has round trips of
 // sheets, `cuts` a file that is given to a session in pieces.
 #![tactic(auto)]
 
@@ -9,7 +9,7 @@ ghost use Rattle.round_trip.specs.RoundTrip.{FileComesBack, TableComesBack, Chec
 use drawing::Answer;
 
 pub mod cuts;
-pub mod sheets;
+pub mod sheet_trips;
 
 // The answers of two calls, one after the other; the second is the first's where that refused.
 #[derive(Clone, Copy)]

@@ -11,7 +11,7 @@ use text_out::{Buffer, put, put_all};
 
 mod data;
 mod description;
-mod extent;
+mod extents;
 mod group;
 mod hash;
 mod list;
@@ -156,7 +156,7 @@ fn put_table_call(
         return list::put_groups(out, buffer, used, contents, bodies, rest);
     }
     if call == b"box".as_slice() {
-        return extent::put_groups(out, buffer, used, contents, bodies, rest);
+        return extents::put_groups(out, buffer, used, contents, bodies, rest);
     }
     if call == b"description".as_slice() {
         return description::put_groups(out, buffer, used, contents, bodies, rest);

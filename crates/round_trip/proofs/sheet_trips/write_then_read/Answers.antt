@@ -2,7 +2,7 @@ use Rattle.round_trip.specs.SheetTripLaws.{table_refused_lem, sheet-fits, table_
 use native.Mathlib.Omega.{arith}
 use mathlib.Core.Path.{sym}
 use lib.Seq.{length-take-le}
-use Rattle.round_trip.proofs.sheets.write_then_read.Goals as goal
+use Rattle.round_trip.proofs.sheet_trips.write_then_read.Goals as goal
 
 pub returns-then-written-ne0 : goal.returns-then-written-ne0
 returns-then-written-ne0 c = table_refused_lem c.sheet_write-written.ensures c.if-written-ne0.true

@@ -3,7 +3,7 @@ use native.Mathlib.Omega.{arith}
 use mathlib.Core.Path.{sym}
 use Prim.Native.Nat.{◌*◌}
 use lib.Seq.{length-take-le}
-use Rattle.round_trip.proofs.sheets.read_then_write.Goals as goal
+use Rattle.round_trip.proofs.sheet_trips.read_then_write.Goals as goal
 
 pub returns-then-read-ne0 : goal.returns-then-read-ne0
 returns-then-read-ne0 c = sheet-refused c.sheet_read-read.ensures c.if-read-ne0.true
