@@ -1,4 +1,4 @@
-use Rattle.pieces.specs.SessionLaws.{verdicts_refused, verdicts_given}
+use Rattle.pieces.proofs.SessionLaws.{verdicts_refused, verdicts_given}
 use mathlib.Core.Path.{◌≡◌, sym, ◌∙◌}
 use Rattle.session.proofs.verdict.judged.Goals as goal
 

@@ -1,4 +1,4 @@
-use Rattle.pieces.specs.SessionLaws.{opened_stands}
+use Rattle.pieces.proofs.SessionLaws.{opened_stands}
 use mathlib.Core.Path.{refl}
 use Rattle.session.proofs.verdict.opened.Goals as goal
 
