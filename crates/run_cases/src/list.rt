@@ -20,7 +20,7 @@ pub fn put_groups(
     let mut chars = [0u16; 64];
     let count = get_chars(label, &mut chars);
     let used = put_lists(out, buffer, used, contents, bodies, &chars[..count]);
-    questions::put_rows(out, buffer, used, contents, bodies)
+    row_questions::put_rows(out, buffer, used, contents, bodies)
 }
 
 // The list with a large room; and for a table that is listed, with room for the entries, and with one less.

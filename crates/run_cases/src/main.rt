@@ -15,11 +15,11 @@ mod extents;
 mod group;
 mod hash;
 mod list;
-mod questions;
 mod read;
+mod row_questions;
 mod sessions;
 mod sheet;
-mod table;
+mod tables;
 
 fn main(rt: HostRuntime) {
     let mut list = [0u8; 131072];
@@ -147,7 +147,7 @@ fn put_table_call(
     rest: &[u32],
 ) -> usize {
     if call == b"table".as_slice() {
-        return table::put_groups(out, buffer, used, contents, bodies);
+        return tables::put_groups(out, buffer, used, contents, bodies);
     }
     if call == b"sheet_write".as_slice() {
         return sheet::put_groups(out, buffer, used, contents, bodies);

@@ -1,6 +1,6 @@
--- `run_cases::questions::put_rows` ends after the rows that are asked about, and stays in the buffer.
+-- `run_cases::row_questions::put_rows` ends after the rows that are asked about, and stays in the buffer.
 use Rattle.std.proofs.Common.{◌-◌, ◌≤◌}
-use Rattle.run_cases.proofs.questions.put_rows.Given as goal
+use Rattle.run_cases.proofs.row_questions.put_rows.Given as goal
 
 abbrev pub invariant-loop-row : goal.invariant-loop-row
 invariant-loop-row l = (l.row ≤ l.rows) × (l.at ≤ 4096)
