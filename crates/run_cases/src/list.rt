@@ -3,7 +3,7 @@ ghost use Rattle.std.specs.Prelude.{◌≤◌};
 
 use crate::data::{get_chars, least};
 use crate::group::{FILL, Group, put_answer, put_hash};
-use crate::{hash, questions};
+use crate::{hash, row_questions};
 use std::io::Stdout;
 use text_out::Buffer;
 
