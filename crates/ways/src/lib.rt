@@ -1,5 +1,7 @@
-// How far a pass over the fields of a layout has come, and the laws of passes, for any way. No function.
+// How far a pass over the fields of a layout has come, the primitives of a way, and the laws of passes, for any way.
 #![tactic(auto)]
+
+pub mod way;
 
 // The places in the source and in the target. Or a refusal: the place of the field at fault, so much further than any source reaches, and the number.
 #[derive(Clone, Copy)]

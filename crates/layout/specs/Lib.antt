@@ -1,0 +1,3 @@
+-- Contracts over a way.
+pub mod Lays
+pub mod Groups

@@ -1,0 +1,22 @@
+use mathlib.Core.Path.{refl, sym, ap, ◌∙◌}
+use mathlib.Core.Bool.{false≢true}
+use borrow.Author.Tests.{eqb-true}
+use native.Mathlib.Omega.{arith}
+use Rattle.ways.specs.Way.{value_at}
+use Rattle.layout_objects.proofs.end.end_is_plain.Goals as goal
+
+pub get-requires : goal.get-requires
+get-requires g c = (refl, omega (arith, c.there.ensures.fits.yes c.if-there.true))
+
+pub returns-then-get-ne0 : goal.returns-then-get-ne0
+returns-then-get-ne0 g c = λ e. absurd (false≢true e)
+
+pub get-requires-then-there : goal.get-requires-then-there
+get-requires-then-there g c = (refl, omega (arith, c.there.ensures.fits.yes c.if-there.true, c.past.ensures))
+
+pub returns-then-there : goal.returns-then-there
+returns-then-there g c =
+    λ e. let yes = c.there.ensures.fits.yes c.if-there.true in (record { inside = omega (arith, yes); is = sym c.get.ensures.value.0 ∙ c.if-get-ne0.false }, record { inside = omega (arith, yes); is = sym (c.get-then-there.ensures.value.0 ∙ ap (value_at g.W.Way.way 4 (g.W.Way.units c.args.src.now)) c.past.ensures) ∙ eqb-true _ _ e })
+
+pub returns : goal.returns
+returns g c = λ e. absurd (false≢true e)

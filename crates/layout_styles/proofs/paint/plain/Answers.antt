@@ -1,0 +1,35 @@
+use Rattle.ways.specs.PaintLaws.{letter_fault, transparent_led, rgb-led, cmyk_led, plain-refused, no_letter}
+use Rattle.ways.specs.Moves.{led, moved_ready}
+use Rattle.ways.specs.LayoutLaws.{nothing-laid}
+use lib.ListN.{length}
+use Prim.Native.Nat.{◌+◌, ◌*◌, ◌≤◌}
+use Rattle.ways.specs.Way.{source_units, value_at}
+use native.Mathlib.Omega.{arith}
+use mathlib.Core.Path.{◌≡◌, refl, sym, ap, ◌∙◌}
+use Rattle.layout_styles.proofs.paint.plain.Goals as goal
+
+pub keep-requires : goal.keep-requires
+keep-requires g c =
+    let is : value_at g.W.Way.way 2 (g.W.Way.units c.args.src.now) c.args.at ≡ 84 = sym c.get-letter.ensures.value.0 ∙ c.if-letter-eq-TRANSPARENT.true in
+    record { begins = c.requires.begins; size_value = (refl, c.requires.way_in_bounds, omega (arith, is)) }
+
+pub returns-then-letter-eq-TRANSPARENT : goal.returns-then-letter-eq-TRANSPARENT
+returns-then-letter-eq-TRANSPARENT g c =
+    let is : value_at g.W.Way.way 2 (g.W.Way.units c.args.src.now) c.args.at ≡ 84 = sym c.get-letter.ensures.value.0 ∙ c.if-letter-eq-TRANSPARENT.true in
+    let some : c.args.at + 1 * source_units g.W.Way.way 2 ≤ length (g.W.Way.units c.args.src.now) = omega (arith, c.requires.way_in_bounds) in
+    let after = moved_ready 2 1 c.requires.begins some (omega arith) (omega arith) c.keep.ensures.moved in
+    transparent_led c.args.version is (led c.keep.ensures.below c.requires.begins c.requires.way_in_bounds c.keep.ensures.moved (nothing-laid after))
+
+pub returns-then-letter-eq-RGB : goal.returns-then-letter-eq-RGB
+returns-then-letter-eq-RGB g c =
+    let is : value_at g.W.Way.way 2 (g.W.Way.units c.args.src.now) c.args.at ≡ 82 = sym c.get-letter.ensures.value.0 ∙ c.if-letter-eq-RGB.true in
+    rgb-led c.args.version is c.color.ensures
+
+pub returns-then-letter-eq-CMYK : goal.returns-then-letter-eq-CMYK
+returns-then-letter-eq-CMYK g c =
+    let is : value_at g.W.Way.way 2 (g.W.Way.units c.args.src.now) c.args.at ≡ 67 = sym c.get-letter.ensures.value.0 ∙ c.if-letter-eq-CMYK.true in
+    cmyk_led c.args.version is c.color-then-letter-eq-CMYK.ensures
+
+pub returns-then-version-lt-V1_4 : goal.returns-then-version-lt-V1_4
+returns-then-version-lt-V1_4 g c =
+    plain-refused c.args.version c.keep.ensures.below c.requires.begins c.requires.way_in_bounds (ap (letter_fault c.args.version) (sym c.get-letter.ensures.value.0) ∙ no_letter c.args.version c.get-letter.result c.if-letter-eq-TRANSPARENT.false c.if-letter-eq-RGB.false c.if-letter-eq-CMYK.false (λ new. absurd (omega (arith, new, c.if-version-lt-V1_4.true)))) c.refusal.ensures
