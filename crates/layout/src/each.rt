@@ -17,8 +17,8 @@ use crate::group::keep;
 use crate::letter::{is_straight, segment_letter};
 use crate::run::run;
 use drawing::limits::{LAST_SERIES, LAST_SHAPE};
-use ways::way::Way;
 use ways::Pass;
+use ways::way::Way;
 
 #[derive(Clone, Copy)]
 pub enum Group {
@@ -35,7 +35,13 @@ pub enum Group {
 }
 
 // One by one, which finds the one at fault.
-fn each_component<W: Way>(src: &[W::Unit], dst: &mut [W::Kept], at: usize, to: usize, count: usize) -> Pass
+fn each_component<W: Way>(
+    src: &[W::Unit],
+    dst: &mut [W::Kept],
+    at: usize,
+    to: usize,
+    count: usize,
+) -> Pass
     requires { Begins (W.units src.now) at to }
     ensures { Lays W.way (repeat count (field F.component)) (W.units src.now) (W.kept dst.old) (W.kept dst.new) at to result }
 {
@@ -49,7 +55,13 @@ fn each_component<W: Way>(src: &[W::Unit], dst: &mut [W::Kept], at: usize, to: u
     behind
 }
 
-fn each_of_color<W: Way>(src: &[W::Unit], dst: &mut [W::Kept], at: usize, to: usize, count: usize) -> Pass
+fn each_of_color<W: Way>(
+    src: &[W::Unit],
+    dst: &mut [W::Kept],
+    at: usize,
+    to: usize,
+    count: usize,
+) -> Pass
     requires begins { Begins (W.units src.now) at to }
     requires way_in_bounds { (at + source_units W.way 2 ≤ length (W.units src.now)) × (value_at W.way 2 (W.units src.now) at < 256 ^ 2) }
     ensures { Led W.way (repeat count (field F.component)).format (W.units src.now) (W.kept dst.old) (W.kept dst.new) at to result }
@@ -93,7 +105,13 @@ fn doubles_behind(letter: u64) -> u64
 }
 
 // A letter and its points one by one, after so many doubles of a start that is free.
-fn each_of_segment<W: Way>(src: &[W::Unit], dst: &mut [W::Kept], at: usize, to: usize, start: u64) -> Pass
+fn each_of_segment<W: Way>(
+    src: &[W::Unit],
+    dst: &mut [W::Kept],
+    at: usize,
+    to: usize,
+    start: u64,
+) -> Pass
     requires begins { Begins (W.units src.now) at to }
     requires start_bound { start ≤ 2 }
     ensures { Ended (spelled start) W.way (W.units src.now) (W.kept dst.old) (W.kept dst.new) at to result }
@@ -106,7 +124,13 @@ fn each_of_segment<W: Way>(src: &[W::Unit], dst: &mut [W::Kept], at: usize, to: 
 }
 
 // A start with the very bits of the end before the letter, which stands where the two join.
-fn joined_start<W: Way>(src: &[W::Unit], dst: &mut [W::Kept], at: usize, to: usize, joint: usize) -> Pass
+fn joined_start<W: Way>(
+    src: &[W::Unit],
+    dst: &mut [W::Kept],
+    at: usize,
+    to: usize,
+    joint: usize,
+) -> Pass
     requires begins { Begins (W.units src.now) at to }
     requires way_bound { (2 * source_units W.way 8 ≤ joint) × (joint ≤ length (W.units src.now)) }
     ensures { Lays W.way (joined_point (some (end_before W.way (W.units src.now) joint))) (W.units src.now) (W.kept dst.old) (W.kept dst.new) at to result }
@@ -133,7 +157,13 @@ fn each_of_joined<W: Way>(src: &[W::Unit], dst: &mut [W::Kept], at: usize, to: u
     run::<W>(&*src, dst, started.at, started.to, 8, doubles)
 }
 
-pub fn each<W: Way>(src: &[W::Unit], dst: &mut [W::Kept], at: usize, to: usize, group: Group) -> Pass
+pub fn each<W: Way>(
+    src: &[W::Unit],
+    dst: &mut [W::Kept],
+    at: usize,
+    to: usize,
+    group: Group,
+) -> Pass
     requires begins { Begins (W.units src.now) at to }
     requires stands { Stands W.way group (W.units src.now) at }
     ensures { EachOf W.way group (W.units src.now) (W.kept dst.old) (W.kept dst.new) at to result }

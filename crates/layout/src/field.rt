@@ -101,7 +101,14 @@ fn ranged<W: Way>(
     cut::<W>(at, to)
 }
 
-pub fn byte<W: Way>(src: &[W::Unit], dst: &mut [W::Kept], at: usize, to: usize, low: u64, high: u64) -> FieldPass
+pub fn byte<W: Way>(
+    src: &[W::Unit],
+    dst: &mut [W::Kept],
+    at: usize,
+    to: usize,
+    low: u64,
+    high: u64,
+) -> FieldPass
     requires begins { Begins (W.units src.now) at to }
     requires high_bound { high < 128 }
     ensures { Asks W.way (F.byte_in low high) (W.units src.now) (W.kept dst.old) (W.kept dst.new) at to result }
@@ -123,7 +130,13 @@ fn flag_fault(fault: u32, value: u64) -> u32
 }
 
 // A flag with this fault where it is true.
-fn flagged<W: Way>(src: &[W::Unit], dst: &mut [W::Kept], at: usize, to: usize, fault: u32) -> FieldPass
+fn flagged<W: Way>(
+    src: &[W::Unit],
+    dst: &mut [W::Kept],
+    at: usize,
+    to: usize,
+    fault: u32,
+) -> FieldPass
     requires { Begins (W.units src.now) at to }
     ensures { Asks W.way (flag_kind fault) (W.units src.now) (W.kept dst.old) (W.kept dst.new) at to result }
 {
@@ -156,7 +169,13 @@ pub fn integer<W: Way>(src: &[W::Unit], dst: &mut [W::Kept], at: usize, to: usiz
     ranged::<W>(&*src, dst, at, to, 4, 0, LAST_WORD, OUT_OF_RANGE)
 }
 
-pub fn integer_to<W: Way>(src: &[W::Unit], dst: &mut [W::Kept], at: usize, to: usize, high: u64) -> FieldPass
+pub fn integer_to<W: Way>(
+    src: &[W::Unit],
+    dst: &mut [W::Kept],
+    at: usize,
+    to: usize,
+    high: u64,
+) -> FieldPass
     requires begins { Begins (W.units src.now) at to }
     requires high_bound { high < 2147483648 }
     ensures { Asks W.way (F.integer_in 0 high) (W.units src.now) (W.kept dst.old) (W.kept dst.new) at to result }
@@ -207,7 +226,13 @@ pub fn hue<W: Way>(src: &[W::Unit], dst: &mut [W::Kept], at: usize, to: usize) -
 }
 
 // A coordinate with the very bits of another.
-pub fn joined<W: Way>(src: &[W::Unit], dst: &mut [W::Kept], at: usize, to: usize, bits: u64) -> FieldPass
+pub fn joined<W: Way>(
+    src: &[W::Unit],
+    dst: &mut [W::Kept],
+    at: usize,
+    to: usize,
+    bits: u64,
+) -> FieldPass
     requires { Begins (W.units src.now) at to }
     ensures { Asks W.way (F.joined bits) (W.units src.now) (W.kept dst.old) (W.kept dst.new) at to result }
 {
@@ -215,7 +240,13 @@ pub fn joined<W: Way>(src: &[W::Unit], dst: &mut [W::Kept], at: usize, to: usize
 }
 
 // A count or a length is a signed number, and no less than the least: it is refused before anything is counted by it.
-pub fn count<W: Way>(src: &[W::Unit], dst: &mut [W::Kept], at: usize, to: usize, least: u32) -> FieldPass
+pub fn count<W: Way>(
+    src: &[W::Unit],
+    dst: &mut [W::Kept],
+    at: usize,
+    to: usize,
+    least: u32,
+) -> FieldPass
     requires { Begins (W.units src.now) at to }
     ensures { Counts W.way least (W.units src.now) (W.kept dst.old) (W.kept dst.new) at to result }
 {

@@ -6,8 +6,8 @@ ghost use Rattle.ways.specs.Way.{source_units, value_at};
 ghost use Rattle.ways.specs.Moves.{Moved};
 ghost use Rattle.layout.specs.Lays.{Begins};
 
-use ways::way::Way;
 use ways::Pass;
+use ways::way::Way;
 
 pub fn keep<W: Way>(src: &[W::Unit], dst: &mut [W::Kept], at: usize, to: usize, size: usize) -> Pass
     requires begins { Begins (W.units src.now) at to }
@@ -21,7 +21,13 @@ pub fn keep<W: Way>(src: &[W::Unit], dst: &mut [W::Kept], at: usize, to: usize, 
 }
 
 // So many words, few enough to be taken one by one.
-pub fn keep_words<W: Way>(src: &[W::Unit], dst: &mut [W::Kept], at: usize, to: usize, count: usize) -> Pass
+pub fn keep_words<W: Way>(
+    src: &[W::Unit],
+    dst: &mut [W::Kept],
+    at: usize,
+    to: usize,
+    count: usize,
+) -> Pass
     requires begins { Begins (W.units src.now) at to }
     requires way_in_bounds { at + count * source_units W.way 4 ≤ length (W.units src.now) }
     ensures { Moved W.way 4 count (W.units src.now) (W.kept dst.old) (W.kept dst.new) at to result }
@@ -36,7 +42,13 @@ pub fn keep_words<W: Way>(src: &[W::Unit], dst: &mut [W::Kept], at: usize, to: u
 }
 
 // So many points.
-pub fn keep_points<W: Way>(src: &[W::Unit], dst: &mut [W::Kept], at: usize, to: usize, count: usize) -> Pass
+pub fn keep_points<W: Way>(
+    src: &[W::Unit],
+    dst: &mut [W::Kept],
+    at: usize,
+    to: usize,
+    count: usize,
+) -> Pass
     requires begins { Begins (W.units src.now) at to }
     requires way_in_bounds { at + 2 * count * source_units W.way 8 ≤ length (W.units src.now) }
     ensures { Moved W.way 8 (2 * count) (W.units src.now) (W.kept dst.old) (W.kept dst.new) at to result }

@@ -8,8 +8,8 @@ ghost use Rattle.ways.specs.FieldPassLaws.{OneOf, is_one_of};
 use crate::field::{cut, kept};
 use drawing::letters::{CLOSED, CURVE, LINE, MOVE, OPEN};
 use drawing::numbers::BAD_CHAR;
-use ways::way::Way;
 use ways::FieldPass;
+use ways::way::Way;
 
 fn letter_fault(letter: u64, a: u64, b: u64, c: u64) -> u32
     ensures { result ≡ unless (is_one_of a b c letter) 7 }
@@ -26,7 +26,15 @@ fn letter_fault(letter: u64, a: u64, b: u64, c: u64) -> u32
     BAD_CHAR
 }
 
-fn one_of<W: Way>(src: &[W::Unit], dst: &mut [W::Kept], at: usize, to: usize, a: u64, b: u64, c: u64) -> FieldPass
+fn one_of<W: Way>(
+    src: &[W::Unit],
+    dst: &mut [W::Kept],
+    at: usize,
+    to: usize,
+    a: u64,
+    b: u64,
+    c: u64,
+) -> FieldPass
     requires begins { Begins (W.units src.now) at to }
     requires a_bound { (a < 256 ^ 2) × (b < 256 ^ 2) × (c < 256 ^ 2) }
     ensures { OneOf W.way a b c (W.units src.now) (W.kept dst.old) (W.kept dst.new) at to result }
@@ -38,14 +46,24 @@ fn one_of<W: Way>(src: &[W::Unit], dst: &mut [W::Kept], at: usize, to: usize, a:
     cut::<W>(at, to)
 }
 
-pub fn closed_letter<W: Way>(src: &[W::Unit], dst: &mut [W::Kept], at: usize, to: usize) -> FieldPass
+pub fn closed_letter<W: Way>(
+    src: &[W::Unit],
+    dst: &mut [W::Kept],
+    at: usize,
+    to: usize,
+) -> FieldPass
     requires { Begins (W.units src.now) at to }
     ensures { Asks W.way closed_letter (W.units src.now) (W.kept dst.old) (W.kept dst.new) at to result }
 {
     one_of::<W>(&*src, dst, at, to, OPEN, CLOSED, CLOSED)
 }
 
-pub fn segment_letter<W: Way>(src: &[W::Unit], dst: &mut [W::Kept], at: usize, to: usize) -> FieldPass
+pub fn segment_letter<W: Way>(
+    src: &[W::Unit],
+    dst: &mut [W::Kept],
+    at: usize,
+    to: usize,
+) -> FieldPass
     requires { Begins (W.units src.now) at to }
     ensures { Asks W.way segment_letter (W.units src.now) (W.kept dst.old) (W.kept dst.new) at to result }
 {

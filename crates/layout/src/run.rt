@@ -24,7 +24,14 @@ fn cut_run<W: Way>(src: &[W::Unit], at: usize, to: usize, size: usize) -> Pass
     W::refusal(CUT, at + (all - at) / units * units)
 }
 
-pub fn run<W: Way>(src: &[W::Unit], dst: &mut [W::Kept], at: usize, to: usize, size: usize, count: u64) -> Pass
+pub fn run<W: Way>(
+    src: &[W::Unit],
+    dst: &mut [W::Kept],
+    at: usize,
+    to: usize,
+    size: usize,
+    count: u64,
+) -> Pass
     requires begins { Begins (W.units src.now) at to }
     requires size_value { (is_run size ≡ true) × (count ≤ 2 ^ 32) }
     ensures { Runs W.way size count (W.units src.now) (W.kept dst.old) (W.kept dst.new) at to result }

@@ -4,10 +4,16 @@ ghost use Rattle.layout.specs.Lays.{Begins, Lays};
 
 use crate::field::count;
 use crate::run::chars;
-use ways::way::Way;
 use ways::Pass;
+use ways::way::Way;
 
-pub fn string<W: Way>(src: &[W::Unit], dst: &mut [W::Kept], at: usize, to: usize, least: u32) -> Pass
+pub fn string<W: Way>(
+    src: &[W::Unit],
+    dst: &mut [W::Kept],
+    at: usize,
+    to: usize,
+    least: u32,
+) -> Pass
     requires { Begins (W.units src.now) at to }
     ensures { Lays W.way (string least) (W.units src.now) (W.kept dst.old) (W.kept dst.new) at to result }
 {

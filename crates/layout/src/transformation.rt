@@ -5,7 +5,6 @@ ghost use Rattle.drawing.specs.Limits.{length_limit};
 ghost use Rattle.ways.specs.Way.{source_units, target_units};
 ghost use Rattle.ways.specs.TransformationLaws.{doubles_at, put_doubles};
 
-
 use ways::way::Way;
 
 pub fn transformation_at<W: Way>(src: &[W::Unit], at: usize) -> [u64; 6]

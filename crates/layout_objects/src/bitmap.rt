@@ -8,8 +8,8 @@ use layout::field::flag;
 use layout::run::run;
 use layout::string::string;
 use layout::transformation::{put_transformation, transformation_at};
-use ways::way::Way;
 use ways::Pass;
+use ways::way::Way;
 
 fn bitmap_latex<W: Way>(src: &[W::Unit], dst: &mut [W::Kept], at: usize, to: usize) -> Pass
     requires { Begins (W.units src.now) at to }

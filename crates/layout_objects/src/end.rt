@@ -9,10 +9,16 @@ use drawing::limits::V1_2;
 use layout::field::flow_flag;
 use layout::group::keep;
 use layout::string::string;
-use ways::way::Way;
 use ways::Pass;
+use ways::way::Way;
 
-pub fn object_end<W: Way>(src: &[W::Unit], dst: &mut [W::Kept], at: usize, to: usize, version: u32) -> Pass
+pub fn object_end<W: Way>(
+    src: &[W::Unit],
+    dst: &mut [W::Kept],
+    at: usize,
+    to: usize,
+    version: u32,
+) -> Pass
     requires { Begins (W.units src.now) at to }
     ensures { Lays W.way (object_end version) (W.units src.now) (W.kept dst.old) (W.kept dst.new) at to result }
 {
@@ -49,7 +55,13 @@ fn end_is_plain<W: Way>(src: &[W::Unit], at: usize) -> bool
     false
 }
 
-fn older_end<W: Way>(src: &[W::Unit], dst: &mut [W::Kept], at: usize, to: usize, version: u32) -> Pass
+fn older_end<W: Way>(
+    src: &[W::Unit],
+    dst: &mut [W::Kept],
+    at: usize,
+    to: usize,
+    version: u32,
+) -> Pass
     requires begins { Begins (W.units src.now) at to }
     requires version_bound { version < 2 }
     ensures { Lays W.way (object_end version) (W.units src.now) (W.kept dst.old) (W.kept dst.new) at to result }
@@ -60,7 +72,13 @@ fn older_end<W: Way>(src: &[W::Unit], dst: &mut [W::Kept], at: usize, to: usize,
     object_end::<W>(&*src, dst, at, to, version)
 }
 
-fn newer_end<W: Way>(src: &[W::Unit], dst: &mut [W::Kept], at: usize, to: usize, version: u32) -> Pass
+fn newer_end<W: Way>(
+    src: &[W::Unit],
+    dst: &mut [W::Kept],
+    at: usize,
+    to: usize,
+    version: u32,
+) -> Pass
     requires begins { Begins (W.units src.now) at to }
     requires le_version { 2 ≤ version }
     ensures { Lays W.way (object_end version) (W.units src.now) (W.kept dst.old) (W.kept dst.new) at to result }
@@ -76,7 +94,13 @@ fn newer_end<W: Way>(src: &[W::Unit], dst: &mut [W::Kept], at: usize, to: usize,
 }
 
 // The same of a group: most have no description, and then flag and length are a group of fields.
-pub fn group_end<W: Way>(src: &[W::Unit], dst: &mut [W::Kept], at: usize, to: usize, version: u32) -> Pass
+pub fn group_end<W: Way>(
+    src: &[W::Unit],
+    dst: &mut [W::Kept],
+    at: usize,
+    to: usize,
+    version: u32,
+) -> Pass
     requires { Begins (W.units src.now) at to }
     ensures { Lays W.way (object_end version) (W.units src.now) (W.kept dst.old) (W.kept dst.new) at to result }
 {

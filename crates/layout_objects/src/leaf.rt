@@ -11,8 +11,8 @@ use crate::text::text;
 use crate::text_path::text_path;
 use drawing::letters::{BITMAP, TEXT, TEXT_PATH};
 use drawing::limits::V1_5;
-use ways::way::Way;
 use ways::Pass;
+use ways::way::Way;
 
 // from 1.5 on
 fn is_text_path(version: u32, letter: u64) -> bool

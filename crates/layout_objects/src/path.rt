@@ -9,11 +9,17 @@ use layout::letter::closed_letter;
 use layout::run::run;
 use layout_styles::line_style::line_style;
 use layout_styles::paint::paint;
-use ways::way::Way;
 use ways::Pass;
+use ways::way::Way;
 
 // A count, the start from 1.3 on, and as many segments.
-fn counted_segments<W: Way>(src: &[W::Unit], dst: &mut [W::Kept], at: usize, to: usize, version: u32) -> Pass
+fn counted_segments<W: Way>(
+    src: &[W::Unit],
+    dst: &mut [W::Kept],
+    at: usize,
+    to: usize,
+    version: u32,
+) -> Pass
     requires { Begins (W.units src.now) at to }
     ensures { Lays W.way (P.counted_segments version) (W.units src.now) (W.kept dst.old) (W.kept dst.new) at to result }
 {
@@ -27,7 +33,13 @@ fn counted_segments<W: Way>(src: &[W::Unit], dst: &mut [W::Kept], at: usize, to:
     segments::<W>(&*src, dst, start.at, start.to, number)
 }
 
-pub fn outline<W: Way>(src: &[W::Unit], dst: &mut [W::Kept], at: usize, to: usize, version: u32) -> Pass
+pub fn outline<W: Way>(
+    src: &[W::Unit],
+    dst: &mut [W::Kept],
+    at: usize,
+    to: usize,
+    version: u32,
+) -> Pass
     requires { Begins (W.units src.now) at to }
     ensures { Lays W.way (P.outline version) (W.units src.now) (W.kept dst.old) (W.kept dst.new) at to result }
 {
@@ -36,7 +48,13 @@ pub fn outline<W: Way>(src: &[W::Unit], dst: &mut [W::Kept], at: usize, to: usiz
     counted_segments::<W>(&*src, dst, behind.at, behind.to, version)
 }
 
-pub fn path<W: Way>(src: &[W::Unit], dst: &mut [W::Kept], at: usize, to: usize, version: u32) -> Pass
+pub fn path<W: Way>(
+    src: &[W::Unit],
+    dst: &mut [W::Kept],
+    at: usize,
+    to: usize,
+    version: u32,
+) -> Pass
     requires { Begins (W.units src.now) at to }
     ensures { Lays W.way (P.path version) (W.units src.now) (W.kept dst.old) (W.kept dst.new) at to result }
 {

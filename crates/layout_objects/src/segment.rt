@@ -14,7 +14,13 @@ use ways::way::Way;
 use ways::{Pass, REFUSED};
 
 // A letter and so many points. Into no memory they are one step.
-fn keep_segment<W: Way>(src: &[W::Unit], dst: &mut [W::Kept], at: usize, to: usize, points: usize) -> Pass
+fn keep_segment<W: Way>(
+    src: &[W::Unit],
+    dst: &mut [W::Kept],
+    at: usize,
+    to: usize,
+    points: usize,
+) -> Pass
     requires begins { Begins (W.units src.now) at to }
     requires way_in_bounds { (at + source_units W.way 2 + 2 * points * source_units W.way 8 ≤ length (W.units src.now)) × (value_at W.way 2 (W.units src.now) at < 256 ^ 2) }
     ensures { MovedSegment W.way points (W.units src.now) (W.kept dst.old) (W.kept dst.new) at to result }
@@ -55,7 +61,13 @@ fn segment<W: Way>(src: &[W::Unit], dst: &mut [W::Kept], at: usize, to: usize) -
     each::<W>(&*src, dst, at, to, Group::Segment(0))
 }
 
-pub fn segments<W: Way>(src: &[W::Unit], dst: &mut [W::Kept], at: usize, to: usize, count: u64) -> Pass
+pub fn segments<W: Way>(
+    src: &[W::Unit],
+    dst: &mut [W::Kept],
+    at: usize,
+    to: usize,
+    count: u64,
+) -> Pass
     requires { Begins (W.units src.now) at to }
     ensures { Lays W.way (segments_of false count none) (W.units src.now) (W.kept dst.old) (W.kept dst.new) at to result }
 {
@@ -96,7 +108,13 @@ fn joins<W: Way>(src: &[W::Unit], at: usize, first: bool) -> bool
     follows::<W>(&*src, at)
 }
 
-fn each_with_start<W: Way>(src: &[W::Unit], dst: &mut [W::Kept], at: usize, to: usize, first: bool) -> Pass
+fn each_with_start<W: Way>(
+    src: &[W::Unit],
+    dst: &mut [W::Kept],
+    at: usize,
+    to: usize,
+    first: bool,
+) -> Pass
     requires begins { Begins (W.units src.now) at to }
     requires follows { Follows W.way first (W.units src.now) at }
     ensures { Ended (segment_then true (before W.way first (W.units src.now) at)) W.way (W.units src.now) (W.kept dst.old) (W.kept dst.new) at to result }
@@ -108,7 +126,13 @@ fn each_with_start<W: Way>(src: &[W::Unit], dst: &mut [W::Kept], at: usize, to: 
 }
 
 // A segment whose start is there, free or joined.
-fn whole_segment<W: Way>(src: &[W::Unit], dst: &mut [W::Kept], at: usize, to: usize, first: bool) -> Pass
+fn whole_segment<W: Way>(
+    src: &[W::Unit],
+    dst: &mut [W::Kept],
+    at: usize,
+    to: usize,
+    first: bool,
+) -> Pass
     requires begins { Begins (W.units src.now) at to }
     requires follows { Follows W.way first (W.units src.now) at }
     requires joins { Joins W.way first (W.units src.now) at }
@@ -128,7 +152,13 @@ fn whole_segment<W: Way>(src: &[W::Unit], dst: &mut [W::Kept], at: usize, to: us
 }
 
 // A segment with a start of its own, as below 1.3.
-fn joined_segment<W: Way>(src: &[W::Unit], dst: &mut [W::Kept], at: usize, to: usize, first: bool) -> Pass
+fn joined_segment<W: Way>(
+    src: &[W::Unit],
+    dst: &mut [W::Kept],
+    at: usize,
+    to: usize,
+    first: bool,
+) -> Pass
     requires begins { Begins (W.units src.now) at to }
     requires follows { Follows W.way first (W.units src.now) at }
     ensures { Ended (segment_then true (before W.way first (W.units src.now) at)) W.way (W.units src.now) (W.kept dst.old) (W.kept dst.new) at to result }
@@ -142,7 +172,13 @@ fn joined_segment<W: Way>(src: &[W::Unit], dst: &mut [W::Kept], at: usize, to: u
 }
 
 // The end before is not carried: it is the two doubles before the letter.
-pub fn joined_segments<W: Way>(src: &[W::Unit], dst: &mut [W::Kept], at: usize, to: usize, count: u64) -> Pass
+pub fn joined_segments<W: Way>(
+    src: &[W::Unit],
+    dst: &mut [W::Kept],
+    at: usize,
+    to: usize,
+    count: u64,
+) -> Pass
     requires { Begins (W.units src.now) at to }
     ensures { Lays W.way (segments_of true count none) (W.units src.now) (W.kept dst.old) (W.kept dst.new) at to result }
 {

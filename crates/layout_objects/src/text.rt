@@ -18,8 +18,8 @@ use layout::group::keep;
 use layout::string::string;
 use layout::transformation::{put_transformation, transformation_at};
 use layout_styles::paint::paint;
-use ways::way::Way;
 use ways::Pass;
+use ways::way::Way;
 
 // None of these values is at fault.
 fn face_good<W: Way>(src: &[W::Unit], at: usize) -> bool
@@ -75,7 +75,12 @@ pub fn font<W: Way>(src: &[W::Unit], dst: &mut [W::Kept], at: usize, to: usize) 
 }
 
 // The LaTeX fields before the alternative.
-pub fn before_alternative<W: Way>(src: &[W::Unit], dst: &mut [W::Kept], at: usize, to: usize) -> Pass
+pub fn before_alternative<W: Way>(
+    src: &[W::Unit],
+    dst: &mut [W::Kept],
+    at: usize,
+    to: usize,
+) -> Pass
     requires { Begins (W.units src.now) at to }
     ensures { Lays W.way (S.string 0 & S.string 0 & S.string 0 & S.string 0 & field (byte_in 0 2) & field (byte_in 0 3)) (W.units src.now) (W.kept dst.old) (W.kept dst.new) at to result }
 {
@@ -117,7 +122,13 @@ pub fn text_style<W: Way>(src: &[W::Unit], dst: &mut [W::Kept], at: usize, to: u
     latex_if::<W>(&*src, dst, set.at, set.to)
 }
 
-pub fn text<W: Way>(src: &[W::Unit], dst: &mut [W::Kept], at: usize, to: usize, version: u32) -> Pass
+pub fn text<W: Way>(
+    src: &[W::Unit],
+    dst: &mut [W::Kept],
+    at: usize,
+    to: usize,
+    version: u32,
+) -> Pass
     requires { Begins (W.units src.now) at to }
     ensures { Lays W.way (T.text version) (W.units src.now) (W.kept dst.old) (W.kept dst.new) at to result }
 {

@@ -6,10 +6,16 @@ use crate::path::outline;
 use crate::text::text_style;
 use layout::string::string;
 use layout_styles::paint::paint;
-use ways::way::Way;
 use ways::Pass;
+use ways::way::Way;
 
-pub fn text_path<W: Way>(src: &[W::Unit], dst: &mut [W::Kept], at: usize, to: usize, version: u32) -> Pass
+pub fn text_path<W: Way>(
+    src: &[W::Unit],
+    dst: &mut [W::Kept],
+    at: usize,
+    to: usize,
+    version: u32,
+) -> Pass
     requires { Begins (W.units src.now) at to }
     ensures { Lays W.way (T.text_path version) (W.units src.now) (W.kept dst.old) (W.kept dst.new) at to result }
 {

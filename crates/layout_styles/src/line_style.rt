@@ -11,8 +11,8 @@ use crate::marker::{chain, markers};
 use drawing::limits::{LAST_CAP, LAST_JOIN, LAST_WINDING, MITRE, V1_1};
 use layout::field::{byte, dash_count, float};
 use layout::run::run;
-use ways::way::Way;
 use ways::Pass;
+use ways::way::Way;
 
 // Dashes and their offset are one run of floats.
 fn dashes<W: Way>(src: &[W::Unit], dst: &mut [W::Kept], at: usize, to: usize) -> Pass
@@ -42,7 +42,13 @@ fn join<W: Way>(src: &[W::Unit], dst: &mut [W::Kept], at: usize, to: usize) -> P
     behind
 }
 
-fn mid_markers<W: Way>(src: &[W::Unit], dst: &mut [W::Kept], at: usize, to: usize, version: u32) -> Pass
+fn mid_markers<W: Way>(
+    src: &[W::Unit],
+    dst: &mut [W::Kept],
+    at: usize,
+    to: usize,
+    version: u32,
+) -> Pass
     requires { Begins (W.units src.now) at to }
     ensures { Lays W.way (when (leb 1 version) (M.markers version) []) (W.units src.now) (W.kept dst.old) (W.kept dst.new) at to result }
 {
@@ -53,7 +59,13 @@ fn mid_markers<W: Way>(src: &[W::Unit], dst: &mut [W::Kept], at: usize, to: usiz
 }
 
 // What follows the join: the winding rule, and three chains of markers.
-fn winding_and_markers<W: Way>(src: &[W::Unit], dst: &mut [W::Kept], at: usize, to: usize, version: u32) -> Pass
+fn winding_and_markers<W: Way>(
+    src: &[W::Unit],
+    dst: &mut [W::Kept],
+    at: usize,
+    to: usize,
+    version: u32,
+) -> Pass
     requires { Begins (W.units src.now) at to }
     ensures { Lays W.way (field (F.byte_in 0 1) & M.markers version & when (leb 1 version) (M.markers version) [] & M.markers version) (W.units src.now) (W.kept dst.old) (W.kept dst.new) at to result }
 {
@@ -64,7 +76,13 @@ fn winding_and_markers<W: Way>(src: &[W::Unit], dst: &mut [W::Kept], at: usize, 
     markers::<W>(&*src, dst, mid.at, mid.to, version)
 }
 
-pub fn line_style<W: Way>(src: &[W::Unit], dst: &mut [W::Kept], at: usize, to: usize, version: u32) -> Pass
+pub fn line_style<W: Way>(
+    src: &[W::Unit],
+    dst: &mut [W::Kept],
+    at: usize,
+    to: usize,
+    version: u32,
+) -> Pass
     requires { Begins (W.units src.now) at to }
     ensures { Lays W.way (line_style version) (W.units src.now) (W.kept dst.old) (W.kept dst.new) at to result }
 {

@@ -11,11 +11,17 @@ use drawing::limits::{
 };
 use layout::field::{byte, flag, float, marker_id};
 use layout::group::keep;
-use ways::way::Way;
 use ways::Pass;
+use ways::way::Way;
 
 // A flag, and a float where the flag has this value.
-fn flagged_float<W: Way>(src: &[W::Unit], dst: &mut [W::Kept], at: usize, to: usize, value: u64) -> Pass
+fn flagged_float<W: Way>(
+    src: &[W::Unit],
+    dst: &mut [W::Kept],
+    at: usize,
+    to: usize,
+    value: u64,
+) -> Pass
     requires { Begins (W.units src.now) at to }
     ensures { Lays W.way (flagged_float value) (W.units src.now) (W.kept dst.old) (W.kept dst.new) at to result }
 {
@@ -96,7 +102,13 @@ fn last_marker(version: u32) -> u32
 }
 
 // Most lines have no markers.
-pub fn markers<W: Way>(src: &[W::Unit], dst: &mut [W::Kept], at: usize, to: usize, version: u32) -> Pass
+pub fn markers<W: Way>(
+    src: &[W::Unit],
+    dst: &mut [W::Kept],
+    at: usize,
+    to: usize,
+    version: u32,
+) -> Pass
     requires { Begins (W.units src.now) at to }
     ensures { Lays W.way (M.markers version) (W.units src.now) (W.kept dst.old) (W.kept dst.new) at to result }
 {
@@ -109,7 +121,13 @@ pub fn markers<W: Way>(src: &[W::Unit], dst: &mut [W::Kept], at: usize, to: usiz
 }
 
 // A marker's data end with another marker, from 1.1 on; an id of 0 ends the chain, and so does the limit.
-pub fn chain<W: Way>(src: &[W::Unit], dst: &mut [W::Kept], at: usize, to: usize, version: u32) -> Pass
+pub fn chain<W: Way>(
+    src: &[W::Unit],
+    dst: &mut [W::Kept],
+    at: usize,
+    to: usize,
+    version: u32,
+) -> Pass
     requires { Begins (W.units src.now) at to }
     ensures { Lays W.way (M.markers version) (W.units src.now) (W.kept dst.old) (W.kept dst.new) at to result }
 {

@@ -18,8 +18,8 @@ use fields::floats::{is_component, is_hue};
 use layout::each::{Group, each};
 use layout::field::{component, hue, integer_to, refused};
 use layout::group::{keep, keep_words};
-use ways::way::Way;
 use ways::Pass;
+use ways::way::Way;
 
 // All of these components are in their range.
 fn all_components<W: Way>(src: &[W::Unit], from: usize, count: usize) -> bool
@@ -38,7 +38,13 @@ fn all_components<W: Way>(src: &[W::Unit], from: usize, count: usize) -> bool
 }
 
 // A letter and so many words behind it, known to be there and allowed. Into no memory they are one step.
-fn keep_color<W: Way>(src: &[W::Unit], dst: &mut [W::Kept], at: usize, to: usize, count: usize) -> Pass
+fn keep_color<W: Way>(
+    src: &[W::Unit],
+    dst: &mut [W::Kept],
+    at: usize,
+    to: usize,
+    count: usize,
+) -> Pass
     requires begins { Begins (W.units src.now) at to }
     requires way_in_bounds { (at + source_units W.way 2 + count * source_units W.way 4 ≤ length (W.units src.now)) × (value_at W.way 2 (W.units src.now) at < 256 ^ 2) }
     ensures { Moves W.way ((2, 1) ∷ (4, count) ∷ []) (W.units src.now) (W.kept dst.old) (W.kept dst.new) at to result }
@@ -90,7 +96,14 @@ fn hsb<W: Way>(src: &[W::Unit], dst: &mut [W::Kept], at: usize, to: usize) -> Pa
 }
 
 // From 1.4 on.
-fn newer<W: Way>(src: &[W::Unit], dst: &mut [W::Kept], at: usize, to: usize, version: u32, letter: u64) -> Pass
+fn newer<W: Way>(
+    src: &[W::Unit],
+    dst: &mut [W::Kept],
+    at: usize,
+    to: usize,
+    version: u32,
+    letter: u64,
+) -> Pass
     requires begins { Begins (W.units src.now) at to }
     requires way_in_bounds { (at + source_units W.way 2 ≤ length (W.units src.now)) × (letter ≡ value_at W.way 2 (W.units src.now) at) × (4 ≤ version) × (letter ≡ 84 → ⊥) × (letter ≡ 82 → ⊥) × (letter ≡ 67 → ⊥) }
     ensures { PlainLed W.way version (W.units src.now) (W.kept dst.old) (W.kept dst.new) at to result }
@@ -126,7 +139,13 @@ fn plain<W: Way>(src: &[W::Unit], dst: &mut [W::Kept], at: usize, to: usize, ver
     newer::<W>(&*src, dst, at, to, version, letter)
 }
 
-pub fn plain_paint<W: Way>(src: &[W::Unit], dst: &mut [W::Kept], at: usize, to: usize, version: u32) -> Pass
+pub fn plain_paint<W: Way>(
+    src: &[W::Unit],
+    dst: &mut [W::Kept],
+    at: usize,
+    to: usize,
+    version: u32,
+) -> Pass
     requires { Begins (W.units src.now) at to }
     ensures { Lays W.way (P.plain_paint version) (W.units src.now) (W.kept dst.old) (W.kept dst.new) at to result }
 {
@@ -137,7 +156,14 @@ pub fn plain_paint<W: Way>(src: &[W::Unit], dst: &mut [W::Kept], at: usize, to: 
 }
 
 // A letter that is allowed, two plain paints, and a direction or a location.
-fn gradient<W: Way>(src: &[W::Unit], dst: &mut [W::Kept], at: usize, to: usize, version: u32, high: u64) -> Pass
+fn gradient<W: Way>(
+    src: &[W::Unit],
+    dst: &mut [W::Kept],
+    at: usize,
+    to: usize,
+    version: u32,
+    high: u64,
+) -> Pass
     requires begins { Begins (W.units src.now) at to }
     requires way_in_bounds { (at + source_units W.way 2 ≤ length (W.units src.now)) × (value_at W.way 2 (W.units src.now) at < 256 ^ 2) × (high < 2147483648) }
     ensures { Led W.way (gradient_parts version high).format (W.units src.now) (W.kept dst.old) (W.kept dst.new) at to result }
@@ -159,7 +185,13 @@ fn is_radial(version: u32, letter: u64) -> bool
     letter == RADIAL
 }
 
-pub fn paint<W: Way>(src: &[W::Unit], dst: &mut [W::Kept], at: usize, to: usize, version: u32) -> Pass
+pub fn paint<W: Way>(
+    src: &[W::Unit],
+    dst: &mut [W::Kept],
+    at: usize,
+    to: usize,
+    version: u32,
+) -> Pass
     requires { Begins (W.units src.now) at to }
     ensures { Lays W.way (P.paint version) (W.units src.now) (W.kept dst.old) (W.kept dst.new) at to result }
 {

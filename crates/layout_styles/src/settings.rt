@@ -12,8 +12,8 @@ use drawing::limits::{
 };
 use layout::field::{byte, flag, integer, integer_to};
 use layout::run::run;
-use ways::way::Way;
 use ways::Pass;
+use ways::way::Way;
 
 // The last of the listed paper sizes.
 fn last_paper(version: u32) -> u64
@@ -25,7 +25,13 @@ fn last_paper(version: u32) -> u64
     USER_PAPER
 }
 
-fn portrait<W: Way>(src: &[W::Unit], dst: &mut [W::Kept], at: usize, to: usize, version: u32) -> Pass
+fn portrait<W: Way>(
+    src: &[W::Unit],
+    dst: &mut [W::Kept],
+    at: usize,
+    to: usize,
+    version: u32,
+) -> Pass
     requires { Begins (W.units src.now) at to }
     ensures { Lays W.way (when (ltb version 3) (field F.flag) 0) (W.units src.now) (W.kept dst.old) (W.kept dst.new) at to result }
 {
@@ -64,7 +70,13 @@ fn ruler_settings<W: Way>(src: &[W::Unit], dst: &mut [W::Kept], at: usize, to: u
     minor.pass
 }
 
-fn tool_settings<W: Way>(src: &[W::Unit], dst: &mut [W::Kept], at: usize, to: usize, version: u32) -> Pass
+fn tool_settings<W: Way>(
+    src: &[W::Unit],
+    dst: &mut [W::Kept],
+    at: usize,
+    to: usize,
+    version: u32,
+) -> Pass
     requires { Begins (W.units src.now) at to }
     ensures { Lays W.way (field (F.integer_in 0 7) & field F.integer & S.paper version & field (F.byte_in 0 3) & field F.integer & field F.integer) (W.units src.now) (W.kept dst.old) (W.kept dst.new) at to result }
 {
@@ -76,7 +88,13 @@ fn tool_settings<W: Way>(src: &[W::Unit], dst: &mut [W::Kept], at: usize, to: us
     ruler_settings::<W>(&*src, dst, papered.at, papered.to)
 }
 
-fn all_settings<W: Way>(src: &[W::Unit], dst: &mut [W::Kept], at: usize, to: usize, version: u32) -> Pass
+fn all_settings<W: Way>(
+    src: &[W::Unit],
+    dst: &mut [W::Kept],
+    at: usize,
+    to: usize,
+    version: u32,
+) -> Pass
     requires { Begins (W.units src.now) at to }
     ensures { Lays W.way (S.all_settings version) (W.units src.now) (W.kept dst.old) (W.kept dst.new) at to result }
 {
@@ -89,7 +107,13 @@ fn all_settings<W: Way>(src: &[W::Unit], dst: &mut [W::Kept], at: usize, to: usi
     tool_settings::<W>(&*src, dst, ruled.at, ruled.to, version)
 }
 
-fn settings_from_flag<W: Way>(src: &[W::Unit], dst: &mut [W::Kept], at: usize, to: usize, version: u32) -> Pass
+fn settings_from_flag<W: Way>(
+    src: &[W::Unit],
+    dst: &mut [W::Kept],
+    at: usize,
+    to: usize,
+    version: u32,
+) -> Pass
     requires { Begins (W.units src.now) at to }
     ensures { Lays W.way (one_of F.flag S.absent_case (S.all_case version ∷ []) one_of_two) (W.units src.now) (W.kept dst.old) (W.kept dst.new) at to result }
 {
@@ -101,7 +125,13 @@ fn settings_from_flag<W: Way>(src: &[W::Unit], dst: &mut [W::Kept], at: usize, t
     behind
 }
 
-fn settings_from_byte<W: Way>(src: &[W::Unit], dst: &mut [W::Kept], at: usize, to: usize, version: u32) -> Pass
+fn settings_from_byte<W: Way>(
+    src: &[W::Unit],
+    dst: &mut [W::Kept],
+    at: usize,
+    to: usize,
+    version: u32,
+) -> Pass
     requires { Begins (W.units src.now) at to }
     ensures { Lays W.way (one_of (F.byte_in 0 2) S.absent_case (S.all_case version ∷ S.paper_case version ∷ []) one_of_three) (W.units src.now) (W.kept dst.old) (W.kept dst.new) at to result }
 {
@@ -118,7 +148,13 @@ fn settings_from_byte<W: Way>(src: &[W::Unit], dst: &mut [W::Kept], at: usize, t
 }
 
 // Below 1.3 a flag tells which settings there are, from 1.3 on a byte.
-pub fn settings<W: Way>(src: &[W::Unit], dst: &mut [W::Kept], at: usize, to: usize, version: u32) -> Pass
+pub fn settings<W: Way>(
+    src: &[W::Unit],
+    dst: &mut [W::Kept],
+    at: usize,
+    to: usize,
+    version: u32,
+) -> Pass
     requires { Begins (W.units src.now) at to }
     ensures { Lays W.way (S.settings version) (W.units src.now) (W.kept dst.old) (W.kept dst.new) at to result }
 {

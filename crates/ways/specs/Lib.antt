@@ -2,6 +2,7 @@
 pub mod Way
 pub mod CodecUnits
 pub mod Passes
+pub mod Picks
 pub mod Carries
 pub mod LayoutLaws
 pub mod Faults

@@ -7,6 +7,7 @@ ghost use Rattle.drawing.specs.Limits.{length_limit};
 ghost use Rattle.memory.specs.Sizes.{is_field, is_run};
 ghost use Rattle.ways.specs.Way as Ways;
 ghost use Rattle.ways.specs.Way.{source_units, target_units, value_at};
+ghost use Rattle.ways.specs.Picks.{Picks};
 ghost use Rattle.ways.specs.Passes.{refusal_of, stepped, ahead_of};
 ghost use Rattle.ways.specs.Steps.{Fits, Small};
 ghost use Rattle.ways.specs.Runs.{AllSmall, HasWide, copied};
@@ -16,6 +17,7 @@ use crate::Pass;
 pub trait Way {
     // What the source's memory is made of, and the target's.
     type Unit;
+
     type Kept;
 
     ghost way: { Ways.Way };
@@ -69,7 +71,14 @@ pub trait Way {
         ensures { result ≡ refusal_of way number at };
 
     // So many fields, which are there, put one behind the other where they fit.
-    fn copy(src: &[Self::Unit], dst: &mut [Self::Kept], at: usize, to: usize, size: usize, count: usize)
+    fn copy(
+        src: &[Self::Unit],
+        dst: &mut [Self::Kept],
+        at: usize,
+        to: usize,
+        size: usize,
+        count: usize,
+    )
         requires { (is_run size ≡ true) × (at + count * source_units way size ≤ length (units src.now)) × AllSmall way size (units src.now) at count }
         ensures { kept dst.new ≡ copied way size count (units src.now) at to (kept dst.old) };
 
@@ -92,6 +101,10 @@ pub trait Way {
     fn ahead(at: usize, to: usize, bytes: usize, words: usize) -> Pass
         requires { (at + way.source.pick bytes words < 2 ^ 60) × (to + way.target.pick bytes words < 2 ^ 60) }
         ensures { result ≡ ahead_of way bytes words at to };
+
+    ghost sources: { Picks way.source };
+
+    ghost targets: { Picks way.target };
 
     ghost kept_length: { (m : List Self.Kept) → length (kept m) ≡ length m };
 }

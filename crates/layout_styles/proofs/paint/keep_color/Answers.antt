@@ -8,6 +8,7 @@ use Prim.Native.Nat.{ℕ, ◌+◌, ◌*◌, ◌≤◌}
 use mathlib.Core.List.{[], ◌∷◌}
 use mathlib.Core.Path.{◌≡◌, refl, ap}
 use Rattle.layout_styles.proofs.paint.keep_color.Goals as goal
+
 -- The letter and the words of a colour, in bytes of a file and in words of a table.
 
 grouped : (count : ℕ) → Grouped g.W.Way.way (2 + 4 * count) (1 + count) ((2, 1) ∷ (4, count) ∷ [])

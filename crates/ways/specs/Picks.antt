@@ -1,0 +1,14 @@
+-- Units are those of a file or those of a table: what is so many bytes in a file and so many words in a table is one of the two numbers.
+use Rattle.std.specs.Prelude.{◌≡◌, ◌⊎◌, ℕ}
+use Rattle.std.proofs.Common.{sym, subst, inl, inr}
+use Rattle.ways.specs.Way.{Units}
+
+abbrev pub Picks : Units → Type 0
+Picks U = (U.pick ≡ (λ bytes words. bytes)) ⊎ (U.pick ≡ (λ bytes words. words))
+
+-- ---- laws
+
+-- What holds of the bytes and of the words holds of what is picked.
+pub picked : {U : Units} → Picks U → (P : (ℕ → ℕ → ℕ) → Type 0) → P (λ bytes words. bytes) → P (λ bytes words. words) → P U.pick
+picked (inl is) P bytes words = subst P (sym is) bytes
+picked (inr is) P bytes words = subst P (sym is) words
