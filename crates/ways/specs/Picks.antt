@@ -3,12 +3,15 @@ use Rattle.std.specs.Prelude.{◌≡◌, ◌⊎◌, ℕ}
 use Rattle.std.proofs.Common.{sym, subst, inl, inr}
 use Rattle.ways.specs.Way.{Units}
 
-abbrev pub Picks : Units → Type 0
-Picks U = (U.pick ≡ (λ bytes words. bytes)) ⊎ (U.pick ≡ (λ bytes words. words))
+pub record Picks (U : Units) : Type 0 where
+  pub either : (U.pick ≡ (λ bytes words. bytes)) ⊎ (U.pick ≡ (λ bytes words. words))
 
 -- ---- laws
 
+one-of : {pick : ℕ → ℕ → ℕ} (P : (ℕ → ℕ → ℕ) → Type 0) → (pick ≡ (λ bytes words. bytes)) ⊎ (pick ≡ (λ bytes words. words)) → P (λ bytes words. bytes) → P (λ bytes words. words) → P pick
+one-of P (inl is) bytes words = subst P (sym is) bytes
+one-of P (inr is) bytes words = subst P (sym is) words
+
 -- What holds of the bytes and of the words holds of what is picked.
 pub picked : {U : Units} → Picks U → (P : (ℕ → ℕ → ℕ) → Type 0) → P (λ bytes words. bytes) → P (λ bytes words. words) → P U.pick
-picked (inl is) P bytes words = subst P (sym is) bytes
-picked (inr is) P bytes words = subst P (sym is) words
+picked picks P bytes words = one-of P picks.either bytes words
