@@ -10,6 +10,7 @@ use Rattle.walks.specs.MemberWalkLaws.{members_begin, members-lost, members-agai
 use Rattle.walks.specs.GroupWalkLaws.{group_uncounted, group_members-lost, members_stand, group_walks}
 use Rattle.walks.specs.ObjectWalkLaws.{object-short, object_leaf, object_group}
 use Prim.Native.Nat.{◌+◌, ◌*◌, ◌<◌}
+use borrow.Author.Rules.{rules}
 use Rattle.table_walk.proofs.objects.+all_group_object.Goals as goal
 
 pub all-loop-left-init : goal.all-loop-left-init
@@ -17,7 +18,8 @@ all-loop-left-init g t c =
     members_begin c.args.version c.args.deep c.args.parent c.args.count (g.C.Cell.cells c.args.contents.now) (g.W.Way.units c.args.words.now) c.args.out.now c.args.at c.args.to c.args.first c.requires
 
 pub all-object-reached-requires : goal.all-object-reached-requires
-all-object-reached-requires g t c = (omega (arith, c.decreases), c.loop-left.invariant.stands)
+all-object-reached-requires g t c =
+    let stands = c.loop-left.invariant.stands in search rules
 
 pub all-shape_of-out-then-reached-ge-REFUSED : goal.all-shape_of-out-then-reached-ge-REFUSED
 all-shape_of-out-then-reached-ge-REFUSED g t c = c.out-1.given ∙ c.loop-left.invariant.written.same_length
@@ -66,7 +68,8 @@ group-overflow_cast-row g t c =
     omega (arith, c.requires.stands.few, c.requires.stands.inside, c.requires.stands.short, c.requires.stands.short-rows, c.requires.stands.rows_inside)
 
 pub group-all-inner-requires : goal.group-all-inner-requires
-group-all-inner-requires g t c = (omega (arith, c.decreases), row_stands 6 (omega arith) c.requires.row_width_in_bounds c.requires.stands)
+group-all-inner-requires g t c =
+    let stands = row_stands 6 (omega arith) c.requires.row_width_in_bounds c.requires.stands in search rules
 
 pub group-shape_of-out-then-inner-ge-REFUSED : goal.group-shape_of-out-then-inner-ge-REFUSED
 group-shape_of-out-then-inner-ge-REFUSED g t c = c.out-then-has_count-1.given ∙ c.out-1.given
@@ -113,7 +116,7 @@ object-overflow_sub-deep g t c = omega (arith, c.if-deep-eq0.false)
 
 pub object-group-requires : goal.object-group-requires
 object-group-requires g t c =
-    (omega (arith, c.decreases, c.if-deep-eq0.false), (c.requires, (leb-true (4 * c.args.row + 4) (length (g.C.Cell.cells c.args.contents.now)) (sym c.has_row.ensures ∙ c.if-has_row.true))))
+    let here = leb-true (4 * c.args.row + 4) (length (g.C.Cell.cells c.args.contents.now)) (sym c.has_row.ensures ∙ c.if-has_row.true) in search rules
 
 pub object-shape_of-out-then-kind_in-eq-GROUP_KIND : goal.object-shape_of-out-then-kind_in-eq-GROUP_KIND
 object-shape_of-out-then-kind_in-eq-GROUP_KIND g t c = c.out-then-kind_in-eq-GROUP_KIND-1.given
