@@ -1,5 +1,2 @@
--- Made by tools/ways from crates/from_file.
--- The way, and contracts over it.
+-- The way.
 pub mod Way
-pub mod Lays
-pub mod Groups

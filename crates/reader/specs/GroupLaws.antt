@@ -29,7 +29,7 @@ use Rattle.ways.specs.Written.{Writes, put_written, both-written, before-written
 use Rattle.ways.specs.FoundLaws.{Found, field_found, field_unfound}
 use Rattle.rows.specs.declared.walked.Walked.{Walked}
 use Rattle.from_file.specs.Way.{way}
-use Rattle.from_file.specs.Lays.{Counts}
+use Rattle.layout.specs.Lays.{Counts}
 use Rattle.reader.specs.Descents.{Stands, Rowed, group_at, members_at, members_part, DescendsMembers, DescendsGroup}
 use Rattle.reader.specs.BodyLaws.{Over, descends_over, descends_gone, descends_met, descends_stopped, Body, body_met, body-stopped}
 
@@ -52,7 +52,7 @@ as_group file v deep at =
     ∙ ap (λ o. and_then o (λ n rest. from_members v deep n rest)) (sym (parse-field bytes member_count (drop at file)))
 
 module _ (file : List ℕ) (below : Below 256 file) (v deep parent at row to : ℕ) (cs bs : List ℕ) (stands : Stands (length file) at row to)
-    {none none' : List ℕ} {q : FieldPass} (counts : Counts 0 file none none' at to q) where
+    {none none' : List ℕ} {q : FieldPass} (counts : Counts way 0 file none none' at to q) where
   pub group_refused : {r : Walked} → Passes.refused ≤ q.pass.at → r ≡ record { row = row; at = q.pass.at; to = q.pass.to } → DescendsGroup file v deep parent at row to cs bs cs bs r
   group_refused off is =
       let u = field_unfound way bytes_sensible file below member_count stands.inside (counts.asks K.integer refl refl) off in

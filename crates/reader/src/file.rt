@@ -11,10 +11,11 @@ use drawing::letters::GROUP;
 use drawing::limits::DEPTH_LIMIT;
 use drawing::numbers::{BAD_CHAR, CUT, TRAILING_BYTES};
 use format::decode::char_at;
-use from_file::prims::{put, refusal, there};
-use from_file_styles::settings::settings;
+use from_file::FromFile;
+use layout_styles::settings::settings;
 use rows::walked::Walked;
 use ways::REFUSED;
+use ways::way::Way;
 
 // What is wrong with the outer object, which has to be a group, by its id: 0 for nothing.
 fn outer_fault(file: &[u8], at: usize) -> u32
@@ -22,7 +23,7 @@ fn outer_fault(file: &[u8], at: usize) -> u32
     requires file_len_bound { length file.now < 2 ^ 32 }
     ensures { result ≡ fault_at outer_id file.now at }
 {
-    if there(&*file, at, 2, 1) {
+    if FromFile::there(&*file, at, 2, 1) {
         if char_at(&*file, at) as u64 == GROUP {
             return 0;
         }
@@ -44,7 +45,7 @@ fn outer(
 {
     let fault = outer_fault(&*file, at);
     if fault != 0 {
-        return stopped(0, refusal(fault, at));
+        return stopped(0, FromFile::refusal(fault, at));
     }
     let walked = group(
         &*file,
@@ -62,7 +63,7 @@ fn outer(
         return walked;
     }
     if end < file.len() {
-        return stopped(0, refusal(TRAILING_BYTES, end));
+        return stopped(0, FromFile::refusal(TRAILING_BYTES, end));
     }
     walked
 }
@@ -77,8 +78,8 @@ pub fn pass_file(file: &[u8], contents: &mut [u32], bodies: &mut [u32]) -> Walke
     if REFUSED <= behind.at {
         return stopped(0, behind);
     }
-    put(bodies, 0, 4, version);
-    let settled = settings(&*file, bodies, behind.at, behind.to, version as u32);
+    FromFile::put(bodies, 0, 4, version);
+    let settled = settings::<FromFile>(&*file, bodies, behind.at, behind.to, version as u32);
     if REFUSED <= settled.at {
         return stopped(0, settled);
     }

@@ -15,7 +15,8 @@ use drawing::limits::LENGTH_LIMIT;
 use drawing::numbers::{BAD_VERSION, CUT, NO_JDR, TOO_LONG};
 use format::decode::{char_at, word_at};
 use format::halves::from_halves;
-use from_file::prims::refusal;
+use from_file::FromFile;
+use ways::way::Way;
 use ways::{FieldPass, Pass};
 
 // Three chars as one number.
@@ -32,7 +33,7 @@ fn no_version(number: u32, at: usize) -> FieldPass
 {
     FieldPass {
         value: 0,
-        pass: refusal(number, at),
+        pass: FromFile::refusal(number, at),
     }
 }
 

@@ -14,13 +14,14 @@ use drawing::numbers::CUT;
 use drawing::row::GROUP_KIND;
 use fields::letters::object_fault;
 use format::decode::char_at;
-use from_file::field::count;
-use from_file::prims::{put, refusal, there};
-use from_file_objects::end::group_end;
-use from_file_objects::leaf::leaf_body;
+use from_file::FromFile;
+use layout::field::count;
+use layout_objects::end::group_end;
+use layout_objects::leaf::leaf_body;
 use rows::kind::leaf_kind;
 use rows::store::put_row;
 use rows::walked::Walked;
+use ways::way::Way;
 use ways::{Pass, REFUSED};
 
 // A refusal, in the row that it was met in.
@@ -40,7 +41,7 @@ fn leaf_fault(file: &[u8], at: usize, version: u32) -> u32
     requires file_len_bound { length file.now < 2 ^ 32 }
     ensures { result ≡ leaf_fault version file.now at }
 {
-    if there(&*file, at, 2, 1) {
+    if FromFile::there(&*file, at, 2, 1) {
         return object_fault(false, version, char_at(&*file, at) as u64);
     }
     CUT
@@ -61,7 +62,7 @@ fn leaf_fields(
     requires { Stands (length file.now) at row to }
     ensures { Rowed (leaf_body version letter) (kind_by_letter letter) parent to row (row + 1) file.now contents.old bodies.old contents.new bodies.new at to result }
 {
-    let behind = leaf_body(&*file, bodies, at, to, version, letter);
+    let behind = leaf_body::<FromFile>(&*file, bodies, at, to, version, letter);
     if REFUSED <= behind.at {
         return stopped(row, behind);
     }
@@ -89,7 +90,7 @@ fn leaf(
 {
     let fault = leaf_fault(&*file, at, version);
     if fault != 0 {
-        return stopped(row, refusal(fault, at));
+        return stopped(row, FromFile::refusal(fault, at));
     }
     let letter = char_at(&*file, at) as u64;
     leaf_fields(
@@ -110,7 +111,7 @@ fn group_here(file: &[u8], at: usize) -> bool
     requires file_len_bound { length file.now < 2 ^ 32 }
     ensures { GroupHere file.now at result }
 {
-    if there(&*file, at, 2, 1) {
+    if FromFile::there(&*file, at, 2, 1) {
         return char_at(&*file, at) as u64 == GROUP;
     }
     false
@@ -134,8 +135,8 @@ fn own_body(
     requires members_bound { members < 2 ^ 32 }
     ensures { Rowed (object_end version) group_kind parent to row next file.now contents.old (P.put to (digits (2 ^ 32) 1 members) bodies.old) contents.new bodies.new at (to + 1) result }
 {
-    put(bodies, to, 4, members);
-    let behind = group_end(&*file, bodies, at, to + 1, version);
+    FromFile::put(bodies, to, 4, members);
+    let behind = group_end::<FromFile>(&*file, bodies, at, to + 1, version);
     if REFUSED <= behind.at {
         return stopped(row, behind);
     }
@@ -199,7 +200,7 @@ pub fn group(
     ensures { DescendsGroup file.now version deep parent at row to contents.old bodies.old contents.new bodies.new result }
 {
     let mut none = [0u32; 0];
-    let counted = count(&*file, &mut none, at, to, LEAST_MEMBERS);
+    let counted = count::<FromFile>(&*file, &mut none, at, to, LEAST_MEMBERS);
     let number = counted.value;
     let behind = counted.pass;
     if REFUSED <= behind.at {

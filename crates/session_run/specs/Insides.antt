@@ -23,7 +23,6 @@ use Rattle.ways.specs.Runs.{Any}
 use Rattle.ways.specs.Carries.{Asked}
 use Rattle.ways.specs.Segments.{straight, doubles_behind, closed_letter, segment_letter}
 use Rattle.from_file.specs.Way.{way}
-use Rattle.from_file.specs.Lays.{Counts}
 use Rattle.pieces.specs.declared.Inside.{Inside}
 use Rattle.pieces.specs.Going.{room, Goes, goes_is, goes_same, goes_nowhere}
 use Rattle.pieces.specs.FieldLaws.{run-goes, chars-goes, field_stops}

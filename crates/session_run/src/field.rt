@@ -3,7 +3,7 @@ ghost use Rattle.std.specs.Prelude.{◌≡◌, ℕ, ◌+◌, ◌^◌, ◌<◌, �
 ghost use Rattle.drawing.specs.Fields as F;
 ghost use Rattle.drawing.specs.LeafLayout.{is_leaf};
 ghost use Rattle.ways.specs.Passes.{refusal_of};
-ghost use Rattle.from_file.specs.Lays.{Begins};
+ghost use Rattle.layout.specs.Lays.{Begins};
 ghost use Rattle.from_file.specs.Way.{way};
 ghost use Rattle.reader.specs.OuterLaws.{outer_id};
 ghost use Rattle.session_run.specs.Told.{Told, told_of};
@@ -12,9 +12,10 @@ use drawing::head::{MAGIC, VERSION_LAST, VERSION_LENGTH, VERSION_ZERO};
 use drawing::letters::GROUP;
 use drawing::numbers::{BAD_CHAR, BAD_VERSION, CUT, NO_JDR};
 use fields::letters::object_fault;
-use from_file::prims::{ahead, get, refusal, there};
+use from_file::FromFile;
 use reader::head::chars_at;
 use ways::FieldPass;
+use ways::way::Way;
 
 // A value behind so many bytes and words, or the fault that it is.
 fn told(at: usize, to: usize, bytes: usize, words: usize, value: u64, fault: u32) -> FieldPass
@@ -24,12 +25,12 @@ fn told(at: usize, to: usize, bytes: usize, words: usize, value: u64, fault: u32
     if fault != 0 {
         return FieldPass {
             value: 0,
-            pass: refusal(fault, at),
+            pass: FromFile::refusal(fault, at),
         };
     }
     FieldPass {
         value: value,
-        pass: ahead(at, to, bytes, words),
+        pass: FromFile::ahead(at, to, bytes, words),
     }
 }
 
@@ -39,7 +40,7 @@ fn cut_here(at: usize) -> FieldPass
 {
     FieldPass {
         value: 0,
-        pass: refusal(CUT, at),
+        pass: FromFile::refusal(CUT, at),
     }
 }
 
@@ -49,8 +50,8 @@ pub fn double(src: &[u8], at: usize, to: usize) -> FieldPass
     requires at_in_bounds { at ≤ length src.now }
     ensures { Told (Unit {0}) F.double src.now at to result }
 {
-    if there(&*src, at, 8, 2) {
-        return told(at, to, 8, 2, get(&*src, at, 8), 0);
+    if FromFile::there(&*src, at, 8, 2) {
+        return told(at, to, 8, 2, FromFile::get(&*src, at, 8), 0);
     }
     cut_here(at)
 }
@@ -61,8 +62,8 @@ pub fn object_id(src: &[u8], at: usize, to: usize, version: u32, deeper: bool) -
     requires at_in_bounds { at ≤ length src.now }
     ensures { Told ℕ (F.object_id (is_leaf version) deeper) src.now at to result }
 {
-    if there(&*src, at, 2, 1) {
-        let letter = get(&*src, at, 2);
+    if FromFile::there(&*src, at, 2, 1) {
+        let letter = FromFile::get(&*src, at, 2);
         return told(at, to, 2, 1, letter, object_fault(deeper, version, letter));
     }
     cut_here(at)
@@ -83,8 +84,8 @@ pub fn outer_id(src: &[u8], at: usize, to: usize) -> FieldPass
     requires at_in_bounds { at ≤ length src.now }
     ensures { Told ℕ outer_id src.now at to result }
 {
-    if there(&*src, at, 2, 1) {
-        let letter = get(&*src, at, 2);
+    if FromFile::there(&*src, at, 2, 1) {
+        let letter = FromFile::get(&*src, at, 2);
         return told(at, to, 2, 1, letter, group_fault(letter));
     }
     cut_here(at)
@@ -104,8 +105,8 @@ pub fn version_length(src: &[u8], at: usize, to: usize) -> FieldPass
     requires at_in_bounds { at ≤ length src.now }
     ensures { Told ℕ F.version_length src.now at to result }
 {
-    if there(&*src, at, 4, 1) {
-        let length = get(&*src, at, 4);
+    if FromFile::there(&*src, at, 4, 1) {
+        let length = FromFile::get(&*src, at, 4);
         return told(at, to, 4, 1, length, length_fault(length));
     }
     cut_here(at)
@@ -125,7 +126,7 @@ pub fn magic(src: &[u8], at: usize, to: usize) -> FieldPass
     requires at_in_bounds { at ≤ length src.now }
     ensures { Told ℕ F.magic src.now at to result }
 {
-    if there(&*src, at, 6, 2) {
+    if FromFile::there(&*src, at, 6, 2) {
         let chars = chars_at(&*src, at);
         return told(at, to, 6, 2, chars, magic_fault(chars));
     }
@@ -149,7 +150,7 @@ pub fn version_chars(src: &[u8], at: usize, to: usize) -> FieldPass
     requires at_in_bounds { at ≤ length src.now }
     ensures { Told ℕ F.version_chars src.now at to result }
 {
-    if there(&*src, at, 6, 2) {
+    if FromFile::there(&*src, at, 6, 2) {
         let chars = chars_at(&*src, at);
         return told(at, to, 6, 2, chars, version_fault(chars));
     }

@@ -1,6 +1,6 @@
 // A place in a file, and one part from there: of the head, of a group, or of the object that is open.
 ghost use Rattle.std.specs.Prelude.{◌≡◌, List, ℕ, ◌+◌, ◌-◌, ◌^◌, ◌<◌, ◌≤◌, length, get_or};
-ghost use Rattle.from_file.specs.Lays.{Begins};
+ghost use Rattle.layout.specs.Lays.{Begins};
 ghost use Rattle.pieces.specs.PartLaws.{with_parts};
 ghost use Rattle.pieces.specs.EntryLaws.{leaf_parts};
 ghost use Rattle.session_run.specs.Insides.{Opened};
@@ -12,8 +12,9 @@ use crate::step::{end_step, inside_step};
 use drawing::head::VERSION_ZERO;
 use drawing::letters;
 use drawing::limits::{DEPTH_LIMIT, LEAST_MEMBERS, V1_1};
-use from_file::field::count;
-use from_file_styles::settings::settings;
+use from_file::FromFile;
+use layout::field::count;
+use layout_styles::settings::settings;
 use pieces::Inside;
 use ways::{Pass, REFUSED};
 
@@ -121,7 +122,7 @@ fn settings_step(src: &[u8], at: usize, to: usize, p: Place) -> PlaceStep
     ensures { HeadSteps p src.now at to result }
 {
     let mut none = [0u32; 0];
-    let settled = settings(&*src, &mut none, at, to, p.version);
+    let settled = settings::<FromFile>(&*src, &mut none, at, to, p.version);
     placed(at_stage(p, 4, p.version), settled)
 }
 
@@ -173,7 +174,7 @@ fn count_step(src: &[u8], at: usize, to: usize, p: Place, members: &mut [u32]) -
     ensures { PlaceSteps p members.old members.new src.now at to result }
 {
     let mut none = [0u32; 0];
-    let counted = count(&*src, &mut none, at, to, LEAST_MEMBERS);
+    let counted = count::<FromFile>(&*src, &mut none, at, to, LEAST_MEMBERS);
     let behind = counted.pass;
     if REFUSED <= behind.at {
         return placed(p, behind);

@@ -1,6 +1,6 @@
 // Part by part over some bytes, until one is cut or at fault, or the file has come to its end.
 ghost use Rattle.std.specs.Prelude.{◌≡◌, cond, ◌^◌, ◌<◌, ◌≤◌, ltb, length};
-ghost use Rattle.from_file.specs.Lays.{Begins};
+ghost use Rattle.layout.specs.Lays.{Begins};
 ghost use Rattle.session_run.specs.Objects.{Sound};
 ghost use Rattle.session_run.specs.Running.{Runs};
 

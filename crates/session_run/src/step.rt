@@ -2,7 +2,7 @@
 ghost use Rattle.std.specs.Prelude.{◌≡◌, cond, ◌+◌, ◌-◌, ◌*◌, ◌/◌, ◌%◌, ◌^◌, ◌<◌, ◌≤◌, eqb, length};
 ghost use Rattle.drawing.specs.Fields as F;
 ghost use Rattle.ways.specs.Segments.{straight, segment_letter};
-ghost use Rattle.from_file.specs.Lays.{Begins};
+ghost use Rattle.layout.specs.Lays.{Begins};
 ghost use Rattle.pieces.specs.PartLaws.{with_parts};
 ghost use Rattle.pieces.specs.OutlineLaws.{segments_from};
 ghost use Rattle.session_run.specs.Insides.{InsideSteps, Next, Opened, Telling, Spelling, Fielded, with_run};
@@ -16,11 +16,12 @@ use crate::parts::{
 use crate::whole::whole;
 use drawing::limits::{LEAST_SEGMENTS, V1_2, V1_3};
 use drawing::numbers::CUT;
-use from_file::field::{count, dash_count, flag, flow_flag};
-use from_file::letter::{closed_letter, is_straight, segment_letter};
-use from_file::prims::refusal;
+use from_file::FromFile;
+use layout::field::{count, dash_count, flag, flow_flag};
+use layout::letter::{closed_letter, is_straight, segment_letter};
 use pieces::Inside;
 use ways::Pass;
+use ways::way::Way;
 
 // What is left of an object, and how far the pass has come there.
 #[derive(Clone, Copy)]
@@ -80,7 +81,7 @@ fn run_step(src: &[u8], at: usize, to: usize, version: u32, s: Inside) -> Inside
     let bytes = field_bytes(s.width);
     let there = (src.len() - at) / bytes;
     if there == 0 {
-        return stepped(s, refusal(CUT, at));
+        return stepped(s, FromFile::refusal(CUT, at));
     }
     if (there as u64) < s.run {
         let left = s.run - (there as u64);
@@ -116,7 +117,7 @@ fn string_step(src: &[u8], at: usize, to: usize, version: u32, s: Inside, least:
     ensures { InsideSteps version s src.now at to result }
 {
     let mut none = [0u32; 0];
-    let length = count(&*src, &mut none, at, to, least);
+    let length = count::<FromFile>(&*src, &mut none, at, to, least);
     stepped(with_run(s, s.parts / B, length.value, 2), length.pass)
 }
 
@@ -137,7 +138,7 @@ fn dash_step(src: &[u8], at: usize, to: usize, version: u32, s: Inside) -> Insid
     ensures { InsideSteps version s src.now at to result }
 {
     let mut none = [0u32; 0];
-    let counted = dash_count(&*src, &mut none, at, to);
+    let counted = dash_count::<FromFile>(&*src, &mut none, at, to);
     stepped(
         with_run(s, s.parts / B, dash_run(counted.value), 4),
         counted.pass,
@@ -169,7 +170,7 @@ fn flag_step(
     ensures { InsideSteps version s src.now at to result }
 {
     let mut none = [0u32; 0];
-    let told = flag(&*src, &mut none, at, to);
+    let told = flag::<FromFile>(&*src, &mut none, at, to);
     let parts = either_parts(told.value == 1, one, other);
     stepped(with_run(s, parts, 0, s.width), told.pass)
 }
@@ -206,7 +207,7 @@ fn outline_step(src: &[u8], at: usize, to: usize, version: u32, s: Inside) -> In
     ensures { InsideSteps version s src.now at to result }
 {
     let mut none = [0u32; 0];
-    let told = closed_letter(&*src, &mut none, at, to);
+    let told = closed_letter::<FromFile>(&*src, &mut none, at, to);
     stepped(with_run(s, COUNT, 0, s.width), told.pass)
 }
 
@@ -217,7 +218,7 @@ fn count_step(src: &[u8], at: usize, to: usize, version: u32, s: Inside) -> Insi
     ensures { InsideSteps version s src.now at to result }
 {
     let mut none = [0u32; 0];
-    let counted = count(&*src, &mut none, at, to, LEAST_SEGMENTS);
+    let counted = count::<FromFile>(&*src, &mut none, at, to, LEAST_SEGMENTS);
     let left = counted.value as u32;
     if version < V1_3 {
         return stepped(segments_from(s, FIRST, left, 0), counted.pass);
@@ -232,7 +233,7 @@ fn segment_step(src: &[u8], at: usize, to: usize, version: u32, s: Inside) -> In
     ensures { InsideSteps version s src.now at to result }
 {
     let mut none = [0u32; 0];
-    let told = segment_letter(&*src, &mut none, at, to);
+    let told = segment_letter::<FromFile>(&*src, &mut none, at, to);
     let doubles = either_parts(is_straight(told.value), 2, 6);
     stepped(segments_from(s, SEGMENT, s.segments, doubles), told.pass)
 }
@@ -252,7 +253,7 @@ fn own_step(
     ensures { InsideSteps version s src.now at to result }
 {
     let mut none = [0u32; 0];
-    let told = segment_letter(&*src, &mut none, at, to);
+    let told = segment_letter::<FromFile>(&*src, &mut none, at, to);
     let parts = either_parts(is_straight(told.value), line, curve);
     stepped(with_run(s, parts, 0, s.width), told.pass)
 }
@@ -299,7 +300,7 @@ pub fn end_step(src: &[u8], at: usize, to: usize, version: u32, s: Inside) -> In
     ensures { InsideSteps version s src.now at to result }
 {
     let mut none = [0u32; 0];
-    let flow = flow_flag(&*src, &mut none, at, to);
+    let flow = flow_flag::<FromFile>(&*src, &mut none, at, to);
     if version < V1_2 {
         return stepped(with_run(s, NONE, 0, s.width), flow.pass);
     }

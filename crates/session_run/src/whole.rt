@@ -4,7 +4,7 @@ ghost use Rattle.format.specs.Layout.{field, repeat, ◌&◌};
 ghost use Rattle.drawing.specs.Fields as F;
 ghost use Rattle.ways.specs.LineStyleLaws as S;
 ghost use Rattle.ways.specs.TextLaws as T;
-ghost use Rattle.from_file.specs.Lays.{Begins, Lays};
+ghost use Rattle.layout.specs.Lays.{Begins, Lays};
 ghost use Rattle.from_file.specs.Way.{way};
 ghost use Rattle.pieces.specs.LeafLaws as L;
 ghost use Rattle.session_run.specs.Wholes.{Whole, PartWhole};
@@ -14,26 +14,27 @@ use drawing::limits::{
     LAST_CAP, LAST_HORIZONTAL, LAST_JOIN, LAST_SERIES, LAST_SHAPE, LAST_VERTICAL, LAST_WINDING,
     MITRE,
 };
-use from_file::field::{byte, float, font_size, joined};
-use from_file::run::run;
-use from_file_styles::marker::markers;
-use from_file_styles::paint::paint;
+use from_file::FromFile;
+use layout::field::{byte, float, font_size, joined};
+use layout::run::run;
+use layout_styles::marker::markers;
+use layout_styles::paint::paint;
 use ways::Pass;
 
 // A join with the limit of a mitre, and the winding rule.
 fn join_end(src: &[u8], dst: &mut [u32], at: usize, to: usize) -> Pass
     requires { Begins src.now at to }
-    ensures { Lays (S.join & field (F.byte_in 0 1)) src.now dst.old dst.new at to result }
+    ensures { Lays way (S.join & field (F.byte_in 0 1)) src.now dst.old dst.new at to result }
 {
-    let join = byte(&*src, dst, at, to, 0, LAST_JOIN);
+    let join = byte::<FromFile>(&*src, dst, at, to, 0, LAST_JOIN);
     let joined = join.pass;
     if join.value == MITRE {
-        let mitre = float(&*src, dst, joined.at, joined.to);
+        let mitre = float::<FromFile>(&*src, dst, joined.at, joined.to);
         let limited = mitre.pass;
-        let wound = byte(&*src, dst, limited.at, limited.to, 0, LAST_WINDING);
+        let wound = byte::<FromFile>(&*src, dst, limited.at, limited.to, 0, LAST_WINDING);
         return wound.pass;
     }
-    let winding = byte(&*src, dst, joined.at, joined.to, 0, LAST_WINDING);
+    let winding = byte::<FromFile>(&*src, dst, joined.at, joined.to, 0, LAST_WINDING);
     winding.pass
 }
 
@@ -44,7 +45,7 @@ fn line_end(src: &[u8], at: usize, to: usize) -> Pass
     ensures { Whole L.line_end src.now at to result }
 {
     let mut none = [0u32; 0];
-    let cap = byte(&*src, &mut none, at, to, 0, LAST_CAP);
+    let cap = byte::<FromFile>(&*src, &mut none, at, to, 0, LAST_CAP);
     let capped = cap.pass;
     join_end(&*src, &mut none, capped.at, capped.to)
 }
@@ -56,13 +57,13 @@ fn face(src: &[u8], at: usize, to: usize) -> Pass
     ensures { Whole T.face src.now at to result }
 {
     let mut none = [0u32; 0];
-    let shape = byte(&*src, &mut none, at, to, 0, LAST_SHAPE);
+    let shape = byte::<FromFile>(&*src, &mut none, at, to, 0, LAST_SHAPE);
     let shaped = shape.pass;
-    let series = byte(&*src, &mut none, shaped.at, shaped.to, 0, LAST_SERIES);
+    let series = byte::<FromFile>(&*src, &mut none, shaped.at, shaped.to, 0, LAST_SERIES);
     let named = series.pass;
-    let size = font_size(&*src, &mut none, named.at, named.to);
+    let size = font_size::<FromFile>(&*src, &mut none, named.at, named.to);
     let sized = size.pass;
-    run(&*src, &mut none, sized.at, sized.to, 8, 6)
+    run::<FromFile>(&*src, &mut none, sized.at, sized.to, 8, 6)
 }
 
 // Horizontal and vertical alignment.
@@ -72,9 +73,9 @@ fn alignment(src: &[u8], at: usize, to: usize) -> Pass
     ensures { Whole L.alignment src.now at to result }
 {
     let mut none = [0u32; 0];
-    let horizontal = byte(&*src, &mut none, at, to, 0, LAST_HORIZONTAL);
+    let horizontal = byte::<FromFile>(&*src, &mut none, at, to, 0, LAST_HORIZONTAL);
     let across = horizontal.pass;
-    let vertical = byte(&*src, &mut none, across.at, across.to, 0, LAST_VERTICAL);
+    let vertical = byte::<FromFile>(&*src, &mut none, across.at, across.to, 0, LAST_VERTICAL);
     vertical.pass
 }
 
@@ -85,9 +86,9 @@ fn joined_start(src: &[u8], at: usize, to: usize, x: u64, y: u64) -> Pass
     ensures { Whole (field (F.joined x) & field (F.joined y)) src.now at to result }
 {
     let mut none = [0u32; 0];
-    let across = joined(&*src, &mut none, at, to, x);
+    let across = joined::<FromFile>(&*src, &mut none, at, to, x);
     let behind = across.pass;
-    let up = joined(&*src, &mut none, behind.at, behind.to, y);
+    let up = joined::<FromFile>(&*src, &mut none, behind.at, behind.to, y);
     up.pass
 }
 
@@ -98,7 +99,7 @@ fn doubles(src: &[u8], at: usize, to: usize, count: u64) -> Pass
     ensures { Whole (repeat count (field F.double)) src.now at to result }
 {
     let mut none = [0u32; 0];
-    run(&*src, &mut none, at, to, 8, count)
+    run::<FromFile>(&*src, &mut none, at, to, 8, count)
 }
 
 // A line's paint, width, end and markers.
@@ -109,16 +110,16 @@ fn style_part(src: &[u8], at: usize, to: usize, version: u32, x: u64, y: u64, pa
 {
     let mut none = [0u32; 0];
     if part == PAINT {
-        return paint(&*src, &mut none, at, to, version);
+        return paint::<FromFile>(&*src, &mut none, at, to, version);
     }
     if part == WIDTH {
-        let width = float(&*src, &mut none, at, to);
+        let width = float::<FromFile>(&*src, &mut none, at, to);
         return width.pass;
     }
     if part == LINE_END {
         return line_end(&*src, at, to);
     }
-    markers(&*src, &mut none, at, to, version)
+    markers::<FromFile>(&*src, &mut none, at, to, version)
 }
 
 // Points, and the parts of a text or a bitmap.

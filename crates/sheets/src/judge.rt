@@ -8,7 +8,8 @@ ghost use Rattle.sheets.specs.Judging.{Judges, HoldsTable};
 use drawing::row::ROW_WIDTH;
 use drawing::sheet::{NUMBER_BYTES, WORD_BYTES};
 use format::decode::char_at;
-use sheet_walk::file::walk_table;
+use from_sheet::FromSheet;
+use table_walk::file::walk_table;
 use ways::REFUSED;
 
 // Whether bytes are a sheet, and its counts.
@@ -44,7 +45,7 @@ fn holds_table(sheet: &[u8], rows: usize, before: usize) -> bool
 {
     let first = 2 * NUMBER_BYTES;
     let mut no_file = [0u8; 0];
-    let walked = walk_table(&sheet[first..before], &sheet[before..], &mut no_file);
+    let walked = walk_table::<u8, FromSheet>(&sheet[first..before], &sheet[before..], &mut no_file);
     walked.at < REFUSED
 }
 

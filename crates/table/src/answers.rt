@@ -7,6 +7,7 @@ use drawing::Answer;
 use drawing::limits::LENGTH_LIMIT;
 use drawing::numbers::{ACCEPTED, NO_TABLE, OUTPUT_TOO_SHORT};
 use drawing::row::ROW_WIDTH;
+use from_table::FromTable;
 use table_walk::file::walk_table;
 use ways::REFUSED;
 
@@ -32,7 +33,7 @@ pub fn check(contents: &[u32], words: &[u32]) -> Answer
         return no_table();
     }
     let mut no_file = [0u8; 0];
-    let walked = walk_table(&*contents, &*words, &mut no_file);
+    let walked = walk_table::<u32, FromTable>(&*contents, &*words, &mut no_file);
     if REFUSED <= walked.at {
         return no_table();
     }
@@ -61,6 +62,6 @@ pub fn write(contents: &[u32], words: &[u32], file: &mut [u8]) -> Answer
             words: 0,
         };
     }
-    let _ = walk_table(&*contents, &*words, file);
+    let _ = walk_table::<u32, FromTable>(&*contents, &*words, file);
     checked
 }

@@ -2,19 +2,18 @@
 ghost use Rattle.std.specs.Prelude.{◌+◌, ◌*◌, ◌<◌, ◌≤◌, length};
 ghost use Rattle.drawing.specs.Table.{row_width, start_in};
 ghost use Rattle.rows.specs.Rows.{row_at};
-ghost use Rattle.rows.specs.Cells.{cells};
 ghost use Rattle.ways.specs.Passes.{refused};
-ghost use Rattle.from_table.specs.Way.{units};
 ghost use Rattle.walks.specs.Walks.{Stands, Counted, Counts, Rowed, WalksLeaf, WalksObject, WalksOwn, WalksGroup, WalksMany};
 
-use crate::prims::{Cell, has_row, is_row, kind_in, start_in};
+use crate::words::Words;
 use drawing::limits::LEAST_MEMBERS;
 use drawing::row::GROUP_KIND;
 use fields::ranges::word_reaches;
-use from_table::prims::{Unit, put, source_length, word_in};
-use from_table_objects::end::group_end;
-use from_table_objects::leaf::leaf_body;
+use layout_objects::end::group_end;
+use layout_objects::leaf::leaf_body;
+use rows::cells::Cell;
 use rows::kind::letter_of;
+use rows::look::{has_row, is_row, kind_in, start_in};
 use rows::walked::Walked;
 use walks::bytes::put_opening;
 use walks::kind::is_leaf;
@@ -25,8 +24,8 @@ use ways::{Pass, REFUSED};
 const OPENING_BYTES: usize = 6;
 
 // What the walk has come to behind an object's body, if its row says just that.
-fn rowed(
-    contents: &[Cell],
+fn rowed<C: Cell>(
+    contents: &[C],
     row: usize,
     kind: u32,
     parent: u32,
@@ -34,9 +33,9 @@ fn rowed(
     behind: Pass,
     next: usize,
 ) -> Walked
-    requires row_width_in_bounds { row_width * row + row_width ≤ length (cells contents.now) }
+    requires row_width_in_bounds { row_width * row + row_width ≤ length (C.cells contents.now) }
     requires start_le_at { behind.at < refused → start ≤ behind.at }
-    ensures { Rowed (row_at (cells contents.now) row) kind parent start next behind result }
+    ensures { Rowed (row_at (C.cells contents.now) row) kind parent start next behind result }
 {
     let at = behind.at;
     let to = behind.to;
@@ -54,9 +53,9 @@ fn rowed(
 }
 
 // A leaf, of which the row is there.
-fn leaf(
-    contents: &[Cell],
-    words: &[Unit],
+fn leaf<C: Cell, W: Words>(
+    contents: &[C],
+    words: &[W::Unit],
     out: &mut [u8],
     at: usize,
     to: usize,
@@ -64,15 +63,16 @@ fn leaf(
     version: u32,
     parent: u32,
 ) -> Walked
-    requires stands { Stands (cells contents.now) (units words.now) row at to }
-    requires row_width_in_bounds { row_width * row + row_width ≤ length (cells contents.now) }
-    ensures { WalksLeaf version parent row (cells contents.now) (units words.now) out.old out.new at to result }
+    requires stands { Stands (C.cells contents.now) (W.units words.now) row at to }
+    requires row_width_in_bounds { row_width * row + row_width ≤ length (C.cells contents.now) }
+    ensures { WalksLeaf version parent row (C.cells contents.now) (W.units words.now) out.old out.new at to result }
 {
     let kind = kind_in(&*contents, row);
     if is_leaf(version, kind) {
         let letter = letter_of(kind);
-        put(out, to, 2, letter);
-        let body = leaf_body(&*words, out, at, to + 2, version, letter);
+        W::are_words(&*words);
+        W::put(out, to, 2, letter);
+        let body = leaf_body::<W>(&*words, out, at, to + 2, version, letter);
         return rowed(&*contents, row, kind, parent, at, body, row + 1);
     }
     no_table()
@@ -80,9 +80,9 @@ fn leaf(
 
 // An object in which groups nest at most so deep.
 #[cycle(all_group_object)]
-pub fn object(
-    contents: &[Cell],
-    words: &[Unit],
+pub fn object<C: Cell, W: Words>(
+    contents: &[C],
+    words: &[W::Unit],
     out: &mut [u8],
     at: usize,
     to: usize,
@@ -91,15 +91,15 @@ pub fn object(
     deep: u32,
     parent: u32,
 ) -> Walked
-    requires { Stands (cells contents.now) (units words.now) row at to }
-    ensures { WalksObject version deep parent row (cells contents.now) (units words.now) out.old out.new at to result }
+    requires { Stands (C.cells contents.now) (W.units words.now) row at to }
+    ensures { WalksObject version deep parent row (C.cells contents.now) (W.units words.now) out.old out.new at to result }
 {
     if has_row(&*contents, row) {
         if deep == 0 {
-            return leaf(&*contents, &*words, out, at, to, row, version, parent);
+            return leaf::<C, W>(&*contents, &*words, out, at, to, row, version, parent);
         }
         if kind_in(&*contents, row) == GROUP_KIND {
-            return group(
+            return group::<C, W>(
                 &*contents,
                 &*words,
                 out,
@@ -111,25 +111,26 @@ pub fn object(
                 parent,
             );
         }
-        return leaf(&*contents, &*words, out, at, to, row, version, parent);
+        return leaf::<C, W>(&*contents, &*words, out, at, to, row, version, parent);
     }
     no_table()
 }
 
 // The count of a group's members is the word at which its row says that its body begins, if that is one.
-fn has_count(words: &[Unit], start: usize) -> bool
-    ensures { Counts (units words.now) start result }
+fn has_count<W: Words>(words: &[W::Unit], start: usize) -> bool
+    ensures { Counts (W.units words.now) start result }
 {
-    if start < source_length(&*words) {
-        return word_reaches(LEAST_MEMBERS, word_in(&*words, start));
+    if start < W::source_length(&*words) {
+        W::are_words(&*words);
+        return word_reaches(LEAST_MEMBERS, W::word_in(&*words, start));
     }
     false
 }
 
 // A group's own body, behind its members: it begins with their count, which was judged where its row says that it stands.
-fn own_body(
-    contents: &[Cell],
-    words: &[Unit],
+fn own_body<C: Cell, W: Words>(
+    contents: &[C],
+    words: &[W::Unit],
     out: &mut [u8],
     at: usize,
     to: usize,
@@ -138,13 +139,14 @@ fn own_body(
     version: u32,
     parent: u32,
 ) -> Walked
-    requires stands { Stands (cells contents.now) (units words.now) next at to }
-    requires row_width_in_bounds { row_width * row + row_width ≤ length (cells contents.now) }
-    requires counted { Counted (units words.now) (start_in (cells contents.now) row) }
-    ensures { WalksOwn version parent row next (cells contents.now) (units words.now) out.old out.new at to result }
+    requires stands { Stands (C.cells contents.now) (W.units words.now) next at to }
+    requires row_width_in_bounds { row_width * row + row_width ≤ length (C.cells contents.now) }
+    requires counted { Counted (W.units words.now) (start_in (C.cells contents.now) row) }
+    ensures { WalksOwn version parent row next (C.cells contents.now) (W.units words.now) out.old out.new at to result }
 {
-    if at < source_length(&*words) {
-        let ended = group_end(&*words, out, at + 1, to, version);
+    if at < W::source_length(&*words) {
+        W::are_words(&*words);
+        let ended = group_end::<W>(&*words, out, at + 1, to, version);
         return rowed(&*contents, row, GROUP_KIND, parent, at, ended, next);
     }
     no_table()
@@ -152,9 +154,9 @@ fn own_body(
 
 // A group, of which the row is there.
 #[cycle(all_group_object)]
-pub fn group(
-    contents: &[Cell],
-    words: &[Unit],
+pub fn group<C: Cell, W: Words>(
+    contents: &[C],
+    words: &[W::Unit],
     out: &mut [u8],
     at: usize,
     to: usize,
@@ -163,15 +165,16 @@ pub fn group(
     deep: u32,
     parent: u32,
 ) -> Walked
-    requires stands { Stands (cells contents.now) (units words.now) row at to }
-    requires row_width_in_bounds { row_width * row + row_width ≤ length (cells contents.now) }
-    ensures { WalksGroup version deep parent row (cells contents.now) (units words.now) out.old out.new at to result }
+    requires stands { Stands (C.cells contents.now) (W.units words.now) row at to }
+    requires row_width_in_bounds { row_width * row + row_width ≤ length (C.cells contents.now) }
+    ensures { WalksGroup version deep parent row (C.cells contents.now) (W.units words.now) out.old out.new at to result }
 {
+    W::are_words(&*words);
     let start = start_in(&*contents, row);
-    if has_count(&*words, start) {
-        let count = word_in(&*words, start);
+    if has_count::<W>(&*words, start) {
+        let count = W::word_in(&*words, start);
         put_opening(out, to, count);
-        let inner = all(
+        let inner = all::<C, W>(
             &*contents,
             &*words,
             out,
@@ -186,7 +189,7 @@ pub fn group(
         if REFUSED <= inner.at {
             return inner;
         }
-        return own_body(
+        return own_body::<C, W>(
             &*contents, &*words, out, inner.at, inner.to, inner.row, row, version, parent,
         );
     }
@@ -195,9 +198,9 @@ pub fn group(
 
 // So many objects, one after another.
 #[cycle(all_group_object)]
-pub fn all(
-    contents: &[Cell],
-    words: &[Unit],
+pub fn all<C: Cell, W: Words>(
+    contents: &[C],
+    words: &[W::Unit],
     out: &mut [u8],
     at: usize,
     to: usize,
@@ -207,8 +210,8 @@ pub fn all(
     parent: u32,
     count: u32,
 ) -> Walked
-    requires { Stands (cells contents.now) (units words.now) first at to }
-    ensures { WalksMany version deep parent count first (cells contents.now) (units words.now) out.old out.new at to result }
+    requires { Stands (C.cells contents.now) (W.units words.now) first at to }
+    ensures { WalksMany version deep parent count first (C.cells contents.now) (W.units words.now) out.old out.new at to result }
 {
     let mut left = count;
     let mut reached = Walked {
@@ -217,7 +220,7 @@ pub fn all(
         to: to,
     };
     while 0 < left {
-        reached = object(
+        reached = object::<C, W>(
             &*contents,
             &*words,
             out,

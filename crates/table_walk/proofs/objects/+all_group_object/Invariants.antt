@@ -1,21 +1,19 @@
 use mathlib.Core.Path.{◌∙◌}
 use Rattle.walks.specs.MemberWalkLaws.{Going}
-use Rattle.rows.specs.Cells.{cells}
-use Rattle.from_table.specs.Way.{units}
 use Prim.Native.Nat.{◌+◌, ◌*◌, ◌<◌}
 use Rattle.table_walk.proofs.objects.+all_group_object.Given as goal
 
 abbrev pub invariant-all-loop-left : goal.invariant-all-loop-left
-invariant-all-loop-left l = Going l.version l.deep l.parent l.count (cells l.contents) (units l.words) l.initial.out l.at l.to l.first l.left l.out l.reached
+invariant-all-loop-left g l = Going l.version l.deep l.parent l.count (g.C.Cell.cells l.contents) (g.W.Way.units l.words) l.initial.out l.at l.to l.first l.left l.out l.reached
 
 abbrev pub decreases-all-loop-left : goal.decreases-all-loop-left
-decreases-all-loop-left l = l.left
+decreases-all-loop-left g l = l.left
 
 abbrev pub decreases-all : goal.decreases-all
-decreases-all l = 3 * l.deep + 1
+decreases-all g l = 3 * l.deep + 1
 
 abbrev pub decreases-group : goal.decreases-group
-decreases-group l = 3 * l.deep + 2
+decreases-group g l = 3 * l.deep + 2
 
 abbrev pub decreases-object : goal.decreases-object
-decreases-object l = 3 * l.deep
+decreases-object g l = 3 * l.deep

@@ -4,18 +4,17 @@ use Rattle.drawing.specs.LeafLayout.{leaf_body}
 use Rattle.walks.specs.BodyLaws.{body_forward}
 use Rattle.walks.specs.WalkingLaws.{walks-lost}
 use Rattle.walks.specs.LeafWalkLaws.{leaf_other, leaf_walks}
-use Rattle.from_table.specs.Way.{units, units_below}
-use Rattle.rows.specs.Cells.{cells}
+use Rattle.table_walk.proofs.TableLaws.{laid, stored}
 use Rattle.table_walk.proofs.objects.leaf.Goals as goal
 
 pub rowed-requires : goal.rowed-requires
-rowed-requires c =
-    record { row_width_in_bounds = c.requires.row_width_in_bounds; start_le_at = λ on. body_forward (leaf_body c.args.version c.letter_of-letter.result) (units_below c.args.words.now c.type_inv.words) c.requires.stands.inside c.leaf_body-body.ensures on }
+rowed-requires g c =
+    record { row_width_in_bounds = c.requires.row_width_in_bounds; start_le_at = λ on. body_forward (leaf_body c.args.version c.letter_of-letter.result) c.are_words.ensures c.requires.stands.inside (laid g.met.W.Words.of_table g.met.W.Words.bytes (leaf_body c.args.version c.letter_of-letter.result) c.leaf_body-body.ensures) on }
 
 pub returns-then-is_leaf : goal.returns-then-is_leaf
-returns-then-is_leaf c =
-    leaf_walks (cells c.args.contents.now) (units c.args.words.now) c.args.version c.args.parent c.args.row c.args.at c.requires.row_width_in_bounds c.kind_in-kind.ensures (sym c.is_leaf.ensures ∙ c.if-is_leaf.true) c.letter_of-letter.ensures.0 (units_below c.args.words.now c.type_inv.words) c.requires.stands c.put.ensures c.leaf_body-body.ensures c.rowed.ensures
+returns-then-is_leaf g c =
+    leaf_walks (g.C.Cell.cells c.args.contents.now) (g.W.Way.units c.args.words.now) c.args.version c.args.parent c.args.row c.args.at c.requires.row_width_in_bounds c.kind_in-kind.ensures (sym c.is_leaf.ensures ∙ c.if-is_leaf.true) c.letter_of-letter.ensures.0 c.are_words.ensures c.requires.stands (stored g.met.W.Words.of_table g.met.W.Words.bytes 2 c.args.to c.letter_of-letter.result c.args.out.now c.put.ensures) (laid g.met.W.Words.of_table g.met.W.Words.bytes (leaf_body c.args.version c.letter_of-letter.result) c.leaf_body-body.ensures) c.rowed.ensures
 
 pub returns : goal.returns
-returns c =
-    λ deep. walks-lost (leaf_other (cells c.args.contents.now) (units c.args.words.now) c.args.version c.args.parent c.args.row c.args.at c.requires.row_width_in_bounds c.kind_in-kind.ensures (sym c.is_leaf.ensures ∙ c.if-is_leaf.false)) c.no_table.ensures refl
+returns g c =
+    λ deep. walks-lost (leaf_other (g.C.Cell.cells c.args.contents.now) (g.W.Way.units c.args.words.now) c.args.version c.args.parent c.args.row c.args.at c.requires.row_width_in_bounds c.kind_in-kind.ensures (sym c.is_leaf.ensures ∙ c.if-is_leaf.false)) c.no_table.ensures refl

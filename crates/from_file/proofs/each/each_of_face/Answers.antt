@@ -1,7 +1,0 @@
-use Rattle.ways.specs.TransformationLaws.{transformation-run}
-use Rattle.ways.specs.LayoutLaws.{valued-laid, ◌⨾◌}
-use Rattle.from_file.proofs.each.each_of_face.Goals as goal
-
-pub returns : goal.returns
-returns c =
-    valued-laid c.byte-shape.ensures ⨾ valued-laid c.byte-series.ensures ⨾ valued-laid c.font_size-size.ensures ⨾ transformation-run c.run.ensures

@@ -1,7 +1,0 @@
-use Rattle.ways.specs.FieldPassLaws.{joined_ranged}
-use Rattle.drawing.specs.Fields as F
-use native.Mathlib.Omega.{arith}
-use Rattle.from_file.proofs.field.joined.Goals as goal
-
-pub returns : goal.returns
-returns c = c.ranged.ensures.asks (F.joined c.args.bits) (joined_ranged c.args.bits (omega arith))

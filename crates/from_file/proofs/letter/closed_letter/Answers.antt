@@ -1,7 +1,0 @@
-use Rattle.ways.specs.FieldPassLaws.{two-of}
-use Rattle.drawing.specs.Fields.{one_of_chars}
-use mathlib.Core.List.{[], ◌∷◌}
-use Rattle.from_file.proofs.letter.closed_letter.Goals as goal
-
-pub returns : goal.returns
-returns c = c.one_of.ensures.asks (one_of_chars (79 ∷ 67 ∷ [])) (two-of 79 67)

@@ -1,6 +1,0 @@
-use Rattle.ways.specs.FieldPassLaws.{is_one_of}
-use mathlib.Core.Path.{refl}
-use Rattle.from_file.proofs.letter.segment_letter.Goals as goal
-
-pub returns : goal.returns
-returns c = c.one_of.ensures.asks (is_one_of 76 77 66) (λ letter. refl)

@@ -1,5 +1,0 @@
-use Rattle.ways.specs.LayoutLaws.{laid, cased, ◌⨾◌}
-use Rattle.from_file_objects.proofs.bitmap.bitmap.Goals as goal
-
-pub returns : goal.returns
-returns c = laid (cased (c.string-named.ensures ⨾ c.bitmap_latex-linked.ensures ⨾ c.placed.ensures))

@@ -1,5 +1,0 @@
-use Rattle.ways.specs.LayoutLaws.{◌⨾◌}
-use Rattle.from_file_objects.proofs.leaf.leaf_body.Goals as goal
-
-pub returns : goal.returns
-returns c = c.leaf_parts-parts.ensures ⨾ c.object_end.ensures

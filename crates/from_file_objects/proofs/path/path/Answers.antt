@@ -1,6 +1,0 @@
-use Rattle.ways.specs.LayoutLaws.{laid, cased, ◌⨾◌}
-use Rattle.from_file_objects.proofs.path.path.Goals as goal
-
-pub returns : goal.returns
-returns c =
-    laid (cased (c.paint-lined.ensures ⨾ c.paint-filled.ensures ⨾ c.line_style-styled.ensures ⨾ c.outline.ensures))

@@ -1,5 +1,0 @@
-use Rattle.ways.specs.LayoutLaws.{laid, cased, ◌⨾◌}
-use Rattle.from_file_objects.proofs.text.text.Goals as goal
-
-pub returns : goal.returns
-returns c = laid (cased (c.text_style-styled.ensures ⨾ c.paint-painted.ensures ⨾ c.string.ensures))

@@ -1,5 +1,0 @@
-use Rattle.ways.specs.LayoutLaws.{valued-laid, ◌⨾◌}
-use Rattle.from_file_styles.proofs.line_style.winding_and_markers.Goals as goal
-
-pub returns : goal.returns
-returns c = valued-laid c.byte-winding.ensures ⨾ c.markers-start.ensures ⨾ c.mid_markers-mid.ensures ⨾ c.markers.ensures

@@ -1,8 +1,0 @@
--- Made by tools/ways from crates/from_file.
-use Rattle.ways.specs.TransformationLaws.{transformation-run}
-use Rattle.ways.specs.LayoutLaws.{valued-laid, ◌⨾◌}
-use Rattle.from_sheet.proofs.each.each_of_face.Goals as goal
-
-pub returns : goal.returns
-returns c =
-    valued-laid c.byte-shape.ensures ⨾ valued-laid c.byte-series.ensures ⨾ valued-laid c.font_size-size.ensures ⨾ transformation-run c.run.ensures

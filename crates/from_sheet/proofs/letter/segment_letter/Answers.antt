@@ -1,7 +1,0 @@
--- Made by tools/ways from crates/from_file.
-use Rattle.ways.specs.FieldPassLaws.{is_one_of}
-use mathlib.Core.Path.{refl}
-use Rattle.from_sheet.proofs.letter.segment_letter.Goals as goal
-
-pub returns : goal.returns
-returns c = c.one_of.ensures.asks (is_one_of 76 77 66) (λ letter. refl)

@@ -1,7 +1,0 @@
--- Made by tools/ways from crates/from_file_objects.
-use Rattle.ways.specs.LayoutLaws.{laid, cased, ◌⨾◌}
-use Rattle.from_sheet_objects.proofs.text_path.text_path.Goals as goal
-
-pub returns : goal.returns
-returns c =
-    laid (cased (c.paint-painted.ensures ⨾ c.text_style-styled.ensures ⨾ c.string-worded.ensures ⨾ c.outline.ensures))

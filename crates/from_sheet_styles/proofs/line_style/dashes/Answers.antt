@@ -1,9 +1,0 @@
--- Made by tools/ways from crates/from_file_styles.
-use Rattle.ways.specs.LineStyleLaws.{no_dashes, some_dashes}
-use Rattle.from_sheet_styles.proofs.line_style.dashes.Goals as goal
-
-pub returns-then-count-eq0 : goal.returns-then-count-eq0
-returns-then-count-eq0 c = no_dashes c.dash_count-counted.ensures.0 c.if-count-eq0.true
-
-pub returns : goal.returns
-returns c = some_dashes c.dash_count-counted.ensures.0 c.if-count-eq0.false c.run.ensures

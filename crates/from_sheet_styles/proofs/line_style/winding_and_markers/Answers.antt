@@ -1,6 +1,0 @@
--- Made by tools/ways from crates/from_file_styles.
-use Rattle.ways.specs.LayoutLaws.{valued-laid, ◌⨾◌}
-use Rattle.from_sheet_styles.proofs.line_style.winding_and_markers.Goals as goal
-
-pub returns : goal.returns
-returns c = valued-laid c.byte-winding.ensures ⨾ c.markers-start.ensures ⨾ c.mid_markers-mid.ensures ⨾ c.markers.ensures

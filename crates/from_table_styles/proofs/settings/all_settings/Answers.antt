@@ -1,7 +1,0 @@
--- Made by tools/ways from crates/from_file_styles.
-use Rattle.ways.specs.LayoutLaws.{laid, cased, valued-laid, ◌⨾◌}
-use Rattle.from_table_styles.proofs.settings.all_settings.Goals as goal
-
-pub returns : goal.returns
-returns c =
-    laid (cased (valued-laid c.flag-grid.ensures ⨾ valued-laid c.flag-lock.ensures ⨾ valued-laid c.flag-rulers.ensures ⨾ c.tool_settings.ensures))

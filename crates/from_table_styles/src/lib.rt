@@ -1,8 +1,0 @@
-// Made by tools/ways from crates/from_file_styles.
-// The layout in code, from a file's bytes to a table's words: paints, markers, line styles, settings.
-#![tactic(auto)]
-
-pub mod line_style;
-pub mod marker;
-pub mod paint;
-pub mod settings;

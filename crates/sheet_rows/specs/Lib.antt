@@ -1,2 +1,0 @@
--- What a sheet's contents hold.
-pub mod Cells

@@ -1,4 +1,0 @@
-// Rows that lie in a sheet's bytes.
-#![tactic(auto)]
-
-pub mod look;

@@ -1,0 +1,2 @@
+-- What a call over any words says, said of a table's.
+mod TableLaws
