@@ -16,6 +16,3 @@ whole_segment-requires g c =
     let yes = c.there.ensures.fits.yes c.if-there.true in
     let picked : g.W.Way.way.source.pick 34 9 ≡ source_units g.W.Way.way 2 + 4 * source_units g.W.Way.way 8 = letter_points g.met.W.Way.sources 2 in
     record { begins = c.requires.begins; follows = c.requires.follows; joins = c.joins.ensures c.if-joins.true; way_in_bounds = omega (arith, yes, picked) }
-
-pub each_with_start-requires : goal.each_with_start-requires
-each_with_start-requires g c = record { begins = c.requires.begins; follows = c.requires.follows }

@@ -1,10 +1,9 @@
 use Rattle.ways.specs.LayoutLaws.{came_nowhere, came_on, came_so, came_refused}
-use Rattle.ways.specs.Passes.{refused}
 use Rattle.ways.specs.Segments.{segments_of, before}
 use Rattle.ways.specs.SegmentLaws.{one-segment, none-segment}
 use Rattle.format.specs.Pass.{◌⟫◌}
 use native.Mathlib.Omega.{arith}
-use Prim.Native.Nat.{◌+◌, ◌-◌, ◌<◌}
+use Prim.Native.Nat.{◌+◌, ◌-◌}
 use mathlib.Core.Option.{none}
 use mathlib.Core.Bool.{true, false, true≢false}
 use mathlib.Core.Path.{◌≡◌}
@@ -17,12 +16,6 @@ loop-init g c =
 
 pub returns-then-behind-ge-REFUSED : goal.returns-then-behind-ge-REFUSED
 returns-then-behind-ge-REFUSED g c = record { carried = came_refused c.loop.invariant.0 c.if-behind-ge-REFUSED.true }
-
-pub joined_segment-behind-requires : goal.joined_segment-behind-requires
-joined_segment-behind-requires g c =
-    let going : c.loop.behind.at < refused = omega (arith, c.if-behind-ge-REFUSED.false) in
-    let ready = c.loop.invariant.0.ready in
-    record { begins = ready; follows = record { inside = ready.inside going; room = λ e. c.loop.invariant.1 e going } }
 
 pub loop-preserved : goal.loop-preserved
 loop-preserved g c =

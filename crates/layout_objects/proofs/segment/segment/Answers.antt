@@ -26,6 +26,3 @@ returns-then-is_straight g c =
     let yes = c.there.ensures.fits.yes c.if-there.true in
     let picked : g.W.Way.way.source.pick 18 5 ≡ source_units g.W.Way.way 2 + 2 * source_units g.W.Way.way 8 = letter_points g.met.W.Way.sources 1 in
     moved_spelled 0 1 c.there.ensures.below (omega (arith, g.met.W.Way.double)) c.requires (omega (arith, yes, picked)) told refl c.keep_segment.ensures
-
-pub curve-requires : goal.curve-requires
-curve-requires g c = record { begins = c.requires; at_value = sym c.get-letter.ensures.value.0 ∙ c.if-letter-eq-CURVE.true }

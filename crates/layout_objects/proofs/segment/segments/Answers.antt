@@ -18,9 +18,6 @@ loop-init g c =
 pub returns-then-behind-ge-REFUSED : goal.returns-then-behind-ge-REFUSED
 returns-then-behind-ge-REFUSED g c = free_segments-laid c.args.count (came_refused c.loop.invariant c.if-behind-ge-REFUSED.true)
 
-pub segment-behind-requires : goal.segment-behind-requires
-segment-behind-requires g c = c.loop.invariant.ready
-
 pub loop-preserved : goal.loop-preserved
 loop-preserved g c =
     let rest : c.args.count - c.loop.counter - 1 ≡ c.args.count - (c.loop.counter + 1) = omega arith in

@@ -7,14 +7,6 @@ use mathlib.Core.Path.{◌≡◌, refl, sym, ap, ◌∙◌}
 use Rattle.ways.specs.PickLaws.{letter_points}
 use Rattle.layout_objects.proofs.segment.whole_segment.Goals as goal
 
-pub get-letter-requires : goal.get-letter-requires
-get-letter-requires g c = (refl, omega (arith, c.requires.way_in_bounds))
-
-pub keep_segment-requires : goal.keep_segment-requires
-keep_segment-requires g c =
-    let told : Letter (value_at g.W.Way.way 2 (g.W.Way.units c.args.src.now) c.args.at) 2 = straight_letter (ap straight (sym c.get-letter.ensures.value.0) ∙ sym c.is_straight.ensures ∙ c.if-is_straight.true) in
-    record { begins = c.requires.begins; way_in_bounds = (omega (arith, c.requires.way_in_bounds), told.allowed.fits) }
-
 pub returns-then-is_straight : goal.returns-then-is_straight
 returns-then-is_straight g c =
     let told : Letter (value_at g.W.Way.way 2 (g.W.Way.units c.args.src.now) c.args.at) 2 = straight_letter (ap straight (sym c.get-letter.ensures.value.0) ∙ sym c.is_straight.ensures ∙ c.if-is_straight.true) in
@@ -35,6 +27,3 @@ returns-then-there g c =
     let picked : g.W.Way.way.source.pick 66 17 ≡ source_units g.W.Way.way 2 + 8 * source_units g.W.Way.way 8 = letter_points g.met.W.Way.sources 4 in
     let below = c.get-letter.ensures.below in
     joins_ended g.W.Way.way (g.W.Way.units c.args.src.now) below (omega (arith, g.met.W.Way.double)) c.args.first c.requires.joins (moved_spelled 2 4 below (omega (arith, g.met.W.Way.double)) c.requires.begins (omega (arith, yes, picked)) told refl c.keep_segment-then-there.ensures)
-
-pub each_with_start-requires : goal.each_with_start-requires
-each_with_start-requires g c = record { begins = c.requires.begins; follows = c.requires.follows }

@@ -1,5 +1,4 @@
 use mathlib.Core.Path.{◌≡◌, refl, sym, ap, ◌∙◌, subst}
-use mathlib.Core.Bool.{false≢true}
 use Prim.Native.Nat.{◌+◌}
 use native.Mathlib.Omega.{arith}
 use Rattle.format.specs.Kind.{Allowed}
@@ -24,12 +23,6 @@ past-requires-2 g c = omega (arith, face_units g.met.W.Way.sources, two_bytes g.
 pub get-size-requires : goal.get-size-requires
 get-size-requires g c =
     (refl, omega (arith, face_units g.met.W.Way.sources, two_bytes g.met.W.Way.sources, c.past-2.ensures, c.requires.0))
-
-pub returns-then-shape-gt-LAST_SHAPE : goal.returns-then-shape-gt-LAST_SHAPE
-returns-then-shape-gt-LAST_SHAPE g c = λ e. absurd (false≢true e)
-
-pub returns-then-series-gt-LAST_SERIES : goal.returns-then-series-gt-LAST_SERIES
-returns-then-series-gt-LAST_SERIES g c = λ e. absurd (false≢true e)
 
 pub returns : goal.returns
 returns g c =

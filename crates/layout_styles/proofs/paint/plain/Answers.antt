@@ -5,13 +5,8 @@ use lib.ListN.{length}
 use Prim.Native.Nat.{◌+◌, ◌*◌, ◌≤◌}
 use Rattle.ways.specs.Way.{source_units, value_at}
 use native.Mathlib.Omega.{arith}
-use mathlib.Core.Path.{◌≡◌, refl, sym, ap, ◌∙◌}
+use mathlib.Core.Path.{◌≡◌, sym, ap, ◌∙◌}
 use Rattle.layout_styles.proofs.paint.plain.Goals as goal
-
-pub keep-requires : goal.keep-requires
-keep-requires g c =
-    let is : value_at g.W.Way.way 2 (g.W.Way.units c.args.src.now) c.args.at ≡ 84 = sym c.get-letter.ensures.value.0 ∙ c.if-letter-eq-TRANSPARENT.true in
-    record { begins = c.requires.begins; size_value = (refl, c.requires.way_in_bounds, λ below. omega (arith, is)) }
 
 pub returns-then-letter-eq-TRANSPARENT : goal.returns-then-letter-eq-TRANSPARENT
 returns-then-letter-eq-TRANSPARENT g c =

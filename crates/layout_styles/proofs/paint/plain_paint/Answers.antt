@@ -3,9 +3,6 @@ use Rattle.ways.specs.PaintLaws.{plain-laid}
 use Rattle.ways.specs.FieldPassLaws.{cut-by-char}
 use Rattle.layout_styles.proofs.paint.plain_paint.Goals as goal
 
-pub plain-requires : goal.plain-requires
-plain-requires g c = record { begins = c.requires; way_in_bounds = c.there.ensures.fits.yes c.if-there.true }
-
 pub returns-then-there : goal.returns-then-there
 returns-then-there g c = plain-laid c.args.version c.plain.ensures
 
