@@ -9,7 +9,7 @@ use Rattle.walks.specs.WalkingLaws.{row_stands, walks-lost}
 use Rattle.walks.specs.MemberWalkLaws.{members_begin, members-lost, members-again, members_end}
 use Rattle.walks.specs.GroupWalkLaws.{group_uncounted, group_members-lost, members_stand, group_walks}
 use Rattle.walks.specs.ObjectWalkLaws.{object-short, object_leaf, object_group}
-use Prim.Native.Nat.{◌+◌, ◌*◌, ◌<◌}
+use Prim.Native.Nat.{◌+◌, ◌*◌}
 use borrow.Author.Rules.{rules}
 use Rattle.table_walk.proofs.objects.+all_group_object.Goals as goal
 
