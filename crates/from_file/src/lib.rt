@@ -104,6 +104,10 @@ impl Way for FromFile {
         }
     }
 
+    ghost word = { refl };
+
+    ghost double = { refl };
+
     ghost sources = { bytes_picked };
 
     ghost targets = { words_picked };

@@ -110,6 +110,10 @@ impl Way for FromSheet {
         FromTable::ahead(at, to, bytes, words)
     }
 
+    ghost word = { refl };
+
+    ghost double = { refl };
+
     ghost sources = { words_picked };
 
     ghost targets = { bytes_picked };

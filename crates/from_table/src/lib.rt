@@ -108,6 +108,10 @@ impl Way for FromTable {
         }
     }
 
+    ghost word = { refl };
+
+    ghost double = { refl };
+
     ghost sources = { words_picked };
 
     ghost targets = { bytes_picked };

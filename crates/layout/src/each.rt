@@ -45,12 +45,10 @@ fn each_component<W: Way>(
     requires { Begins (W.units src.now) at to }
     ensures { Lays W.way (repeat count (field F.component)) (W.units src.now) (W.kept dst.old) (W.kept dst.new) at to result }
 {
-    let mut behind = Pass { at: at, to: to };
-    let mut left = count;
-    while 0 < left {
+    let mut behind = Pass { at, to };
+    for _ in 0..count {
         let taken = component::<W>(&*src, dst, behind.at, behind.to);
         behind = taken.pass;
-        left = left - 1;
     }
     behind
 }

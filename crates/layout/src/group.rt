@@ -11,7 +11,7 @@ use ways::way::Way;
 
 pub fn keep<W: Way>(src: &[W::Unit], dst: &mut [W::Kept], at: usize, to: usize, size: usize) -> Pass
     requires begins { Begins (W.units src.now) at to }
-    requires size_value { (is_field size ≡ true) × (at + source_units W.way size ≤ length (W.units src.now)) × (value_at W.way size (W.units src.now) at < 256 ^ size) }
+    requires size_value { (is_field size ≡ true) × (at + source_units W.way size ≤ length (W.units src.now)) × (Below W.way.source.base (W.units src.now) → value_at W.way size (W.units src.now) at < 256 ^ size) }
     ensures moved { Moved W.way size 1 (W.units src.now) (W.kept dst.old) (W.kept dst.new) at to result }
     ensures below { Below W.way.source.base (W.units src.now) }
 {
@@ -32,11 +32,9 @@ pub fn keep_words<W: Way>(
     requires way_in_bounds { at + count * source_units W.way 4 ≤ length (W.units src.now) }
     ensures { Moved W.way 4 count (W.units src.now) (W.kept dst.old) (W.kept dst.new) at to result }
 {
-    let mut behind = Pass { at: at, to: to };
-    let mut left = count;
-    while 0 < left {
+    let mut behind = Pass { at, to };
+    for _ in 0..count {
         behind = keep::<W>(&*src, dst, behind.at, behind.to, 4);
-        left = left - 1;
     }
     behind
 }
@@ -53,12 +51,10 @@ pub fn keep_points<W: Way>(
     requires way_in_bounds { at + 2 * count * source_units W.way 8 ≤ length (W.units src.now) }
     ensures { Moved W.way 8 (2 * count) (W.units src.now) (W.kept dst.old) (W.kept dst.new) at to result }
 {
-    let mut behind = Pass { at: at, to: to };
-    let mut left = count;
-    while 0 < left {
+    let mut behind = Pass { at, to };
+    for _ in 0..count {
         let x = keep::<W>(&*src, dst, behind.at, behind.to, 8);
         behind = keep::<W>(&*src, dst, x.at, x.to, 8);
-        left = left - 1;
     }
     behind
 }

@@ -27,10 +27,8 @@ pub fn put_transformation<W: Way>(dst: &mut [W::Kept], to: usize, six: [u64; 6])
 {
     let units = W::target_units(8);
     let mut place = to;
-    let mut i = 0;
-    while i < 6 {
-        W::put(dst, place, 8, six[i]);
+    for double in six {
+        W::put(dst, place, 8, double);
         place = place + units;
-        i = i + 1;
     }
 }

@@ -1,5 +1,6 @@
 // What ends every object: the flow frame flag, and from 1.2 on the description.
 ghost use Rattle.std.specs.Prelude.{◌≡◌, true, ◌+◌, ◌^◌, ◌<◌, ◌≤◌};
+ghost use Rattle.format.specs.Digits.{Below};
 ghost use Rattle.drawing.specs.LeafLayout.{object_end};
 ghost use Rattle.ways.specs.Way.{source_units};
 ghost use Rattle.ways.specs.EndLaws.{ZeroAt};
@@ -44,7 +45,8 @@ fn flow_is_plain<W: Way>(src: &[W::Unit], at: usize) -> bool
 // The flag and the description's length are there, and 0.
 fn end_is_plain<W: Way>(src: &[W::Unit], at: usize) -> bool
     requires { at < 2 ^ 40 }
-    ensures { result ≡ true → ZeroAt W.way 1 (W.units src.now) at × ZeroAt W.way 4 (W.units src.now) (at + source_units W.way 1) }
+    ensures plain { result ≡ true → ZeroAt W.way 1 (W.units src.now) at × ZeroAt W.way 4 (W.units src.now) (at + source_units W.way 1) }
+    ensures below { Below W.way.source.base (W.units src.now) }
 {
     if W::there(&*src, at, 5, 2) {
         if W::get(&*src, at, 1) != 0 {

@@ -71,14 +71,12 @@ pub fn segments<W: Way>(
     requires { Begins (W.units src.now) at to }
     ensures { Lays W.way (segments_of false count none) (W.units src.now) (W.kept dst.old) (W.kept dst.new) at to result }
 {
-    let mut behind = Pass { at: at, to: to };
-    let mut left = count;
-    while 0 < left {
+    let mut behind = Pass { at, to };
+    for _ in 0..count {
         if REFUSED <= behind.at {
             return behind;
         }
         behind = segment::<W>(&*src, dst, behind.at, behind.to);
-        left = left - 1;
     }
     behind
 }
@@ -182,16 +180,14 @@ pub fn joined_segments<W: Way>(
     requires { Begins (W.units src.now) at to }
     ensures { Lays W.way (segments_of true count none) (W.units src.now) (W.kept dst.old) (W.kept dst.new) at to result }
 {
-    let mut behind = Pass { at: at, to: to };
+    let mut behind = Pass { at, to };
     let mut first = true;
-    let mut left = count;
-    while 0 < left {
+    for _ in 0..count {
         if REFUSED <= behind.at {
             return behind;
         }
         behind = joined_segment::<W>(&*src, dst, behind.at, behind.to, first);
         first = false;
-        left = left - 1;
     }
     behind
 }

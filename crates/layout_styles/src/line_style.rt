@@ -53,7 +53,7 @@ fn mid_markers<W: Way>(
     ensures { Lays W.way (when (leb 1 version) (M.markers version) []) (W.units src.now) (W.kept dst.old) (W.kept dst.new) at to result }
 {
     if version < V1_1 {
-        return Pass { at: at, to: to };
+        return Pass { at, to };
     }
     chain::<W>(&*src, dst, at, to, version)
 }

@@ -132,9 +132,8 @@ pub fn chain<W: Way>(
     ensures { Lays W.way (M.markers version) (W.units src.now) (W.kept dst.old) (W.kept dst.new) at to result }
 {
     let high = last_marker(version);
-    let mut behind = Pass { at: at, to: to };
-    let mut left = MARKER_LIMIT;
-    while 0 < left {
+    let mut behind = Pass { at, to };
+    for _ in 0..MARKER_LIMIT {
         let told = marker_id::<W>(&*src, dst, behind.at, behind.to, high, true);
         let id = told.value;
         let after = told.pass;
@@ -145,7 +144,6 @@ pub fn chain<W: Way>(
             return arrow::<W>(&*src, dst, after.at, after.to);
         }
         behind = marker::<W>(&*src, dst, after.at, after.to, version);
-        left = left - 1;
     }
     let last = marker_id::<W>(&*src, dst, behind.at, behind.to, high, false);
     last.pass

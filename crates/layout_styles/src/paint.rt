@@ -1,5 +1,6 @@
 // Paints: plain ones, and gradients of two plain ones. The letter and the components of a colour are a group.
 ghost use Rattle.std.specs.Prelude.{◌≡◌, true, ◌&&◌, ◌+◌, ◌*◌, ◌^◌, ◌<◌, ◌≤◌, [], ◌∷◌, eqb, leb, length};
+ghost use Rattle.format.specs.Digits.{Below};
 ghost use Rattle.format.specs.Kind.{Allowed};
 ghost use Rattle.format.specs.Layout.{field, repeat, ◌&◌};
 ghost use Rattle.drawing.specs.Fields as F;
@@ -26,11 +27,8 @@ fn all_components<W: Way>(src: &[W::Unit], from: usize, count: usize) -> bool
     requires { (from + count * source_units W.way 4 ≤ length (W.units src.now)) × (length (W.units src.now) ≤ length_limit) }
     ensures { result ≡ true → AllAllowed W.way F.component 4 count (W.units src.now) from }
 {
-    let mut i = 0;
-    while i < count {
-        if is_component(W::get(&*src, from + i * W::source_units(4), 4)) {
-            i = i + 1;
-        } else {
+    for i in 0..count {
+        if !is_component(W::get(&*src, from + i * W::source_units(4), 4)) {
             return false;
         }
     }
@@ -106,6 +104,7 @@ fn newer<W: Way>(
 ) -> Pass
     requires begins { Begins (W.units src.now) at to }
     requires way_in_bounds { (at + source_units W.way 2 ≤ length (W.units src.now)) × (letter ≡ value_at W.way 2 (W.units src.now) at) × (4 ≤ version) × (letter ≡ 84 → ⊥) × (letter ≡ 82 → ⊥) × (letter ≡ 67 → ⊥) }
+    requires below { Below W.way.source.base (W.units src.now) }
     ensures { PlainLed W.way version (W.units src.now) (W.kept dst.old) (W.kept dst.new) at to result }
 {
     if letter == GREY {

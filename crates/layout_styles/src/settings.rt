@@ -39,7 +39,7 @@ fn portrait<W: Way>(
         let told = flag::<W>(&*src, dst, at, to);
         return told.pass;
     }
-    Pass { at: at, to: to }
+    Pass { at, to }
 }
 
 fn paper<W: Way>(src: &[W::Unit], dst: &mut [W::Kept], at: usize, to: usize, version: u32) -> Pass

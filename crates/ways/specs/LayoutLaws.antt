@@ -1,6 +1,6 @@
 -- The rules of passes over layouts: one for each way in which a layout is put together, and those of loops.
 use Rattle.std.specs.Prelude.{◌≡◌, refl, Bool, true, false, ℕ, zero, suc, ◌-◌, ◌<◌, ◌≤◌, List, length}
-use Rattle.std.proofs.Common.{ap, ◌∙◌, true≢false, arith}
+use Rattle.std.proofs.Common.{ap, ◌∙◌, subst, true≢false, arith}
 use Rattle.std.proofs.lemmas.Bool.{false≢true}
 use Rattle.format.specs.Script.{Script}
 use Rattle.format.specs.Format.{Format, known, one, pair, lead, many, pick, via, script}
@@ -104,6 +104,10 @@ module _ {W : Way} {us m : List ℕ} {at to : ℕ} {these : Script (Unit {0}) �
   -- Before the first step.
   pub came_nowhere : Ready (length us) at to → Progress these these W us m m at to at to
   came_nowhere ready = record { runs = λ K. refl; ready = ready; same_length = refl }
+
+  -- So many are left, counted otherwise.
+  pub came_so : (rest : ℕ → Script (Unit {0}) → Script (Unit {0})) {n left : ℕ} {m' : List ℕ} {at' to' : ℕ} → n ≡ left → Progress these (rest n) W us m m' at to at' to' → Progress these (rest left) W us m m' at to at' to'
+  came_so rest {m' = m'} {at'} {to'} is so = subst (λ n. Progress these (rest n) W us m m' at to at' to') is so
 
   module _ {m' : List ℕ} {at' to' : ℕ} {those : Script (Unit {0}) → Script (Unit {0})} (so : Progress these those W us m m' at to at' to') where
     -- One step more.

@@ -3,6 +3,7 @@ pub mod Way
 pub mod CodecUnits
 pub mod Passes
 pub mod Picks
+pub mod PickLaws
 pub mod Carries
 pub mod LayoutLaws
 pub mod Faults

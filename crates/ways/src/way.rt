@@ -102,6 +102,11 @@ pub trait Way {
         requires { (at + way.source.pick bytes words < 2 ^ 60) × (to + way.target.pick bytes words < 2 ^ 60) }
         ensures { result ≡ ahead_of way bytes words at to };
 
+    // A word and a double hold any number of their bytes.
+    ghost word: { way.source.base ^ source_units way 4 ≡ 256 ^ 4 };
+
+    ghost double: { way.source.base ^ source_units way 8 ≡ 256 ^ 8 };
+
     ghost sources: { Picks way.source };
 
     ghost targets: { Picks way.target };

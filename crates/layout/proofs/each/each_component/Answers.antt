@@ -1,31 +1,25 @@
 use Rattle.ways.specs.LayoutLaws.{valued-laid, came_nowhere, came_on, one_of, none_of}
 use Rattle.drawing.specs.Fields as F
-use Rattle.format.specs.Pass.{◌⟫◌}
 use Rattle.format.specs.Layout.{field}
 use native.Mathlib.Omega.{arith}
-use mathlib.Core.Path.{◌≡◌, refl, ◌∙◌}
+use Prim.Native.Nat.{◌+◌, ◌-◌}
+use mathlib.Core.Path.{◌≡◌}
 use Rattle.layout.proofs.each.each_component.Goals as goal
 
-pub loop-left-init : goal.loop-left-init
-loop-left-init g c = (came_nowhere c.requires, refl)
+pub loop-init : goal.loop-init
+loop-init g c =
+    let all : c.args.count - 0 ≡ c.args.count = omega arith in
+    rw all (came_nowhere c.requires)
 
 pub component-taken-requires : goal.component-taken-requires
-component-taken-requires g c = c.loop-left.invariant.0.ready
+component-taken-requires g c = c.loop.invariant.ready
 
-pub overflow_sub-left : goal.overflow_sub-left
-overflow_sub-left g c = omega (arith, c.loop-left-test.true)
-
-pub loop-left-smaller : goal.loop-left-smaller
-loop-left-smaller g c = omega (arith, c.loop-left-test.true)
-
-pub loop-left-preserved : goal.loop-left-preserved
-loop-left-preserved g c =
-    (came_on c.loop-left.invariant.0 (one_of (field F.component) c.loop-left.left c.loop-left-test.true (valued-laid c.component-taken.ensures)), c.dst-1.given ∙ c.loop-left.invariant.1)
-
-pub shape_of-dst : goal.shape_of-dst
-shape_of-dst g c = c.loop-left.invariant.1
+pub loop-preserved : goal.loop-preserved
+loop-preserved g c =
+    let rest : c.args.count - c.loop.counter - 1 ≡ c.args.count - (c.loop.counter + 1) = omega arith in
+    rw (← rest) (came_on c.loop.invariant (one_of (field F.component) (c.args.count - c.loop.counter) (omega (arith, c.loop-test.true)) (valued-laid c.component-taken.ensures)))
 
 pub returns : goal.returns
 returns g c =
-    let came = c.loop-left.invariant.0 in
-    record { carried = came_on came (none_of (field F.component) c.loop-left.left (λ h. omega (arith, h, c.loop-left-test.false)) came.ready) }
+    let came = c.loop.invariant in
+    record { carried = came_on came (none_of (field F.component) (c.args.count - c.loop.counter) (λ h. omega (arith, h, c.loop-test.false)) came.ready) }

@@ -13,12 +13,12 @@ get-word-requires g c = (refl, c.there.ensures.fits.yes c.if-there.true)
 pub kept-requires : goal.kept-requires
 kept-requires g c =
     let here = there_with 4 refl c.there.ensures.fits c.if-there.true c.get-word.ensures.value in
-    (refl, omega arith, there-small 4 c.requires here (omega arith) (omega arith), λ e. omega (arith, here.small))
+    (refl, omega arith, there-small 4 c.requires here (omega arith) (omega arith), λ e. omega (arith, g.met.W.Way.word, here.small))
 
 pub returns-then-there : goal.returns-then-there
 returns-then-there g c =
     let here = there_with 4 refl c.there.ensures.fits c.if-there.true c.get-word.ensures.value in
-    record { asks = λ s sized all. field-asked c.requires (record { shape = s; fault = (F.count c.args.least).fault }) sized here (g.W.Way.way.source.plain s c.get-word.result (long-plain s 4 sized (omega arith))) (omega arith) (omega arith) (own_fault (record { shape = s; fault = (F.count c.args.least).fault }) c.get-word.result g.W.Way.way (omega (arith, all, here.small)) (rw sized here.small) c.count_fault.ensures) c.kept.ensures.0; small = omega (arith, here.small, c.kept.ensures.1) }
+    record { asks = λ s sized all. field-asked c.requires (record { shape = s; fault = (F.count c.args.least).fault }) sized here (g.W.Way.way.source.plain s c.get-word.result (long-plain s 4 sized (omega arith))) (omega arith) (omega arith) (own_fault (record { shape = s; fault = (F.count c.args.least).fault }) c.get-word.result g.W.Way.way (omega (arith, g.met.W.Way.word, all, here.small)) (rw sized here.small) c.count_fault.ensures) c.kept.ensures.0; small = omega (arith, g.met.W.Way.word, here.small, c.kept.ensures.1) }
 
 pub returns : goal.returns
 returns g c =

@@ -11,13 +11,13 @@ get-word-requires g c = (refl, c.there.ensures.fits.yes c.if-there.true)
 
 pub kept-requires : goal.kept-requires
 kept-requires g c =
-    let judges = own_fault F.dash_count c.get-word.result g.W.Way.way (omega (arith, c.get-word.ensures.value.1)) c.get-word.ensures.value.1 c.dash_fault.ensures in
+    let judges = own_fault F.dash_count c.get-word.result g.W.Way.way (omega (arith, g.met.W.Way.word, c.get-word.ensures.value.1)) c.get-word.ensures.value.1 c.dash_fault.ensures in
     seen_fits (seen F.dash_count refl refl c.requires c.there.ensures.fits c.if-there.true c.get-word.ensures.value judges) refl
 
 pub returns-then-there : goal.returns-then-there
 returns-then-there g c =
-    let judges = own_fault F.dash_count c.get-word.result g.W.Way.way (omega (arith, c.get-word.ensures.value.1)) c.get-word.ensures.value.1 c.dash_fault.ensures in
-    (seen_asked (seen F.dash_count refl refl c.requires c.there.ensures.fits c.if-there.true c.get-word.ensures.value judges) c.kept.ensures.0, omega (arith, c.get-word.ensures.value.1, c.kept.ensures.1))
+    let judges = own_fault F.dash_count c.get-word.result g.W.Way.way (omega (arith, g.met.W.Way.word, c.get-word.ensures.value.1)) c.get-word.ensures.value.1 c.dash_fault.ensures in
+    (seen_asked (seen F.dash_count refl refl c.requires c.there.ensures.fits c.if-there.true c.get-word.ensures.value judges) c.kept.ensures.0, omega (arith, g.met.W.Way.word, c.get-word.ensures.value.1, c.kept.ensures.1))
 
 pub returns : goal.returns
 returns g c =

@@ -11,12 +11,12 @@ get-word-requires g c = (refl, c.there.ensures.fits.yes c.if-there.true)
 pub kept-requires : goal.kept-requires
 kept-requires g c =
     let here = there_with 4 refl c.there.ensures.fits c.if-there.true c.get-word.ensures.value in
-    (refl, omega arith, there-small 4 c.requires here (omega arith) (omega arith), λ e. omega (arith, here.small))
+    (refl, omega arith, there-small 4 c.requires here (omega arith) (omega arith), λ e. omega (arith, g.met.W.Way.word, here.small))
 
 pub returns-then-there : goal.returns-then-there
 returns-then-there g c =
     let here = there_with 4 refl c.there.ensures.fits c.if-there.true c.get-word.ensures.value in
-    field-asked c.requires F.font_size refl here (g.W.Way.way.source.plain (F.font_size).shape c.get-word.result refl) (omega arith) (omega arith) (own_fault F.font_size c.get-word.result g.W.Way.way (omega (arith, here.small)) here.small c.size_fault.ensures) c.kept.ensures.0
+    field-asked c.requires F.font_size refl here (g.W.Way.way.source.plain (F.font_size).shape c.get-word.result refl) (omega arith) (omega arith) (own_fault F.font_size c.get-word.result g.W.Way.way (omega (arith, g.met.W.Way.word, here.small)) here.small c.size_fault.ensures) c.kept.ensures.0
 
 pub returns : goal.returns
 returns g c = not_there c.requires F.font_size refl c.there.ensures.fits c.if-there.false c.cut.ensures.0

@@ -12,7 +12,7 @@ pub put-requires : goal.put-requires
 put-requires g c =
     let sizes = field-size c.args.size c.requires.size_value.0 in
     let small = steps_small {W = g.W.Way.way} c.args.size 1 c.requires.begins (omega (arith, c.requires.size_value.1)) sizes.0 sizes.1 in
-    (omega (arith, small.to-small), c.requires.size_value.0, rw c.get-value.ensures.value.0 c.requires.size_value.2)
+    (omega (arith, small.to-small), c.requires.size_value.0, rw c.get-value.ensures.value.0 (c.requires.size_value.2 c.get-value.ensures.below))
 
 pub step-requires : goal.step-requires
 step-requires g c =
@@ -22,4 +22,4 @@ step-requires g c =
 
 pub returns : goal.returns
 returns g c =
-    moved_one g.W.Way.way c.args.size (g.W.Way.units c.args.src.now) c.step.ensures (c.put.ensures ∙ ap (λ v. put c.args.to (digits g.W.Way.way.target.base (target_units g.W.Way.way c.args.size) v) c.args.dst.now) c.get-value.ensures.value.0)
+    record { moved = moved_one g.W.Way.way c.args.size (g.W.Way.units c.args.src.now) c.step.ensures (c.put.ensures ∙ ap (λ v. put c.args.to (digits g.W.Way.way.target.base (target_units g.W.Way.way c.args.size) v) (g.W.Way.kept c.args.dst.now)) c.get-value.ensures.value.0); below = c.get-value.ensures.below }

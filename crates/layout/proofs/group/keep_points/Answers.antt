@@ -1,51 +1,44 @@
 use Rattle.ways.specs.declared.Pass.{Pass}
 use Rattle.ways.specs.Moves.{moved_none, moved_both, moved_ready}
-use Rattle.ways.specs.Way.{source_units}
+use Rattle.ways.specs.Way.{source_units, value_at}
 use Rattle.format.specs.LeafLaws.{field_below}
+use Rattle.std.proofs.Math.Nat as Nat
 use lib.ListN.{length}
 use native.Mathlib.Omega.{arith}
-use Prim.Native.Nat.{◌+◌, ◌-◌, ◌*◌, ◌≤◌}
-use mathlib.Core.Path.{◌≡◌, refl, ap, ◌∙◌}
+use Prim.Native.Nat.{◌+◌, ◌*◌, ◌<◌, ◌≤◌}
+use mathlib.Core.Path.{◌≡◌, refl, ap, subst}
 use Rattle.layout.proofs.group.keep_points.Goals as goal
 
-pub loop-left-init : goal.loop-left-init
-loop-left-init g c =
-    let none : 2 * (c.args.count - c.args.count) ≡ 0 = omega arith in
-    (rw none (moved_none g.W.Way.way 8 (g.W.Way.units c.args.src.now)), omega arith, refl)
+pub loop-init : goal.loop-init
+loop-init g c = moved_none g.W.Way.way 8 (g.W.Way.units c.args.src.now)
 
 pub keep-x-requires : goal.keep-x-requires
 keep-x-requires g c =
-    let done = c.loop-left.invariant.0 in
-    let n = 2 * (c.args.count - c.loop-left.left) in
-    let some : c.args.at + n * source_units g.W.Way.way 8 ≤ length (g.W.Way.units c.args.src.now) = omega (arith, c.requires.way_in_bounds) in
-    let at-is : c.loop-left.behind.at ≡ c.args.at + n * source_units g.W.Way.way 8 = ap (λ (q : Pass). q.at) done.is in
-    let inside : c.loop-left.behind.at + source_units g.W.Way.way 8 ≤ length (g.W.Way.units c.args.src.now) = omega (arith, at-is, c.requires.way_in_bounds, c.loop-left.invariant.1, c.loop-left-test.true) in
-    record { begins = moved_ready 8 n c.requires.begins some (omega arith) (omega arith) done; size_value = (refl, inside, field_below g.W.Way.way.source.base (g.W.Way.units c.args.src.now) c.loop-left.behind.at (source_units g.W.Way.way 8) inside c.keep-x.ensures.below) }
+    let done = c.loop.invariant in
+    let w = source_units g.W.Way.way 8 in
+    let us = g.W.Way.units c.args.src.now in
+    let next : 2 * (c.loop.counter + 1) * w ≤ 2 * c.args.count * w = Nat.mul-le-mul_right w (omega (arith, c.loop-test.true)) in
+    let at-is : c.loop.behind.at ≡ c.args.at + 2 * c.loop.counter * w = ap (λ (q : Pass). q.at) done.is in
+    let inside : c.loop.behind.at + w ≤ length us = omega (arith, at-is, next, c.requires.way_in_bounds) in
+    record { begins = moved_ready 8 (2 * c.loop.counter) c.requires.begins (omega (arith, next, c.requires.way_in_bounds)) (omega arith) (omega arith) done; size_value = (refl, inside, λ below. subst (λ n. value_at g.W.Way.way 8 us c.loop.behind.at < n) g.met.W.Way.double (field_below g.W.Way.way.source.base us c.loop.behind.at w inside below)) }
 
 pub keep-behind-requires : goal.keep-behind-requires
 keep-behind-requires g c =
-    let done = moved_both g.W.Way.way 8 (g.W.Way.units c.args.src.now) c.loop-left.invariant.0 c.keep-x.ensures.moved in
-    let n = 2 * (c.args.count - c.loop-left.left) + 1 in
-    let some : c.args.at + n * source_units g.W.Way.way 8 ≤ length (g.W.Way.units c.args.src.now) = omega (arith, c.requires.way_in_bounds, c.loop-left.invariant.1, c.loop-left-test.true) in
-    let at-is : c.keep-x.result.at ≡ c.args.at + n * source_units g.W.Way.way 8 = ap (λ (q : Pass). q.at) done.is in
-    let inside : c.keep-x.result.at + source_units g.W.Way.way 8 ≤ length (g.W.Way.units c.args.src.now) = omega (arith, at-is, c.requires.way_in_bounds, c.loop-left.invariant.1, c.loop-left-test.true) in
-    record { begins = moved_ready 8 n c.requires.begins some (omega arith) (omega arith) done; size_value = (refl, inside, field_below g.W.Way.way.source.base (g.W.Way.units c.args.src.now) c.keep-x.result.at (source_units g.W.Way.way 8) inside c.keep-x.ensures.below) }
+    let w = source_units g.W.Way.way 8 in
+    let us = g.W.Way.units c.args.src.now in
+    let done = moved_both g.W.Way.way 8 us c.loop.invariant c.keep-x.ensures.moved in
+    let next : 2 * (c.loop.counter + 1) * w ≤ 2 * c.args.count * w = Nat.mul-le-mul_right w (omega (arith, c.loop-test.true)) in
+    let at-is : c.keep-x.result.at ≡ c.args.at + (2 * c.loop.counter + 1) * w = ap (λ (q : Pass). q.at) done.is in
+    let inside : c.keep-x.result.at + w ≤ length us = omega (arith, at-is, next, c.requires.way_in_bounds) in
+    record { begins = moved_ready 8 (2 * c.loop.counter + 1) c.requires.begins (omega (arith, next, c.requires.way_in_bounds)) (omega arith) (omega arith) done; size_value = (refl, inside, λ below. subst (λ n. value_at g.W.Way.way 8 us c.keep-x.result.at < n) g.met.W.Way.double (field_below g.W.Way.way.source.base us c.keep-x.result.at w inside below)) }
 
-pub overflow_sub-left : goal.overflow_sub-left
-overflow_sub-left g c = omega (arith, c.loop-left-test.true)
-
-pub loop-left-smaller : goal.loop-left-smaller
-loop-left-smaller g c = omega (arith, c.loop-left-test.true)
-
-pub loop-left-preserved : goal.loop-left-preserved
-loop-left-preserved g c =
-    let next : 2 * (c.args.count - c.loop-left.left) + 1 + 1 ≡ 2 * (c.args.count - (c.loop-left.left - 1)) = omega (arith, c.loop-left.invariant.1, c.loop-left-test.true) in
-    (rw (← next) (moved_both g.W.Way.way 8 (g.W.Way.units c.args.src.now) (moved_both g.W.Way.way 8 (g.W.Way.units c.args.src.now) c.loop-left.invariant.0 c.keep-x.ensures.moved) c.keep-behind.ensures.moved), omega (arith, c.loop-left.invariant.1), c.dst-in-loop-left-1.given ∙ c.dst-1.given ∙ c.loop-left.invariant.2)
-
-pub shape_of-dst : goal.shape_of-dst
-shape_of-dst g c = c.loop-left.invariant.2
+pub loop-preserved : goal.loop-preserved
+loop-preserved g c =
+    let us = g.W.Way.units c.args.src.now in
+    let two : 2 * c.loop.counter + 1 + 1 ≡ 2 * (c.loop.counter + 1) = omega arith in
+    rw (← two) (moved_both g.W.Way.way 8 us (moved_both g.W.Way.way 8 us c.loop.invariant c.keep-x.ensures.moved) c.keep-behind.ensures.moved)
 
 pub returns : goal.returns
 returns g c =
-    let all : 2 * (c.args.count - c.loop-left.left) ≡ 2 * c.args.count = omega (arith, c.loop-left-test.false) in
-    rw all at c.loop-left.invariant.0
+    let all : c.loop.counter ≡ c.args.count = omega (arith, c.loop-test.false, c.loop.auto.counter-end) in
+    rw all at c.loop.invariant

@@ -1,35 +1,30 @@
 use mathlib.Core.Path.{◌≡◌, refl, sym, ◌∙◌}
-use borrow.Author.Rules.{rules}
-use Prim.Native.Nat.{◌+◌, ◌-◌, ◌*◌, ◌≤◌}
+use Prim.Native.Nat.{◌+◌, ◌*◌, ◌≤◌}
+use Rattle.std.proofs.Math.Nat as Nat
 use native.Mathlib.Omega.{arith}
-use mir.Val.{Fits}
-use mir.Syntax.{w64}
 use Rattle.ways.specs.Way.{target_units}
-use lib.ListN.{get_or}
 use Rattle.ways.specs.TransformationLaws.{one-put, all-put}
 use Rattle.layout.proofs.transformation.put_transformation.Goals as goal
 
-pub loop-i-init : goal.loop-i-init
-loop-i-init g c = (refl, omega arith, omega arith, refl)
+pub loop-double-init : goal.loop-double-init
+loop-double-init g c = (refl, omega arith)
 
 pub put-requires : goal.put-requires
 put-requires g c =
-    let fit : Fits w64 (get_or c.args.six c.loop-i.i 0) = search rules in
-    (omega (arith, c.loop-i.invariant.1, c.loop-i.invariant.2, c.requires.0), refl, omega (arith, fit))
+    let wide = g.W.Way.way.target.most 8 (omega arith) in
+    let before : c.loop-double.double-index * target_units g.W.Way.way 8 ≤ 6 * target_units g.W.Way.way 8 = Nat.mul-le-mul_right (target_units g.W.Way.way 8) (omega (arith, c.loop-double-test.true)) in
+    (omega (arith, c.loop-double.invariant.1, before, c.requires.0), refl, omega (arith, c.loop-double-test.element_fits))
 
 pub overflow_add-place : goal.overflow_add-place
-overflow_add-place g c = omega (arith, c.loop-i.invariant.1, c.loop-i.invariant.2, c.requires.0, c.target_units-units.ensures)
+overflow_add-place g c =
+    let wide = g.W.Way.way.target.most 8 (omega arith) in
+    let before : c.loop-double.double-index * target_units g.W.Way.way 8 ≤ 6 * target_units g.W.Way.way 8 = Nat.mul-le-mul_right (target_units g.W.Way.way 8) (omega (arith, c.loop-double-test.true)) in
+    omega (arith, c.loop-double.invariant.1, before, wide, c.requires.0, c.target_units-units.ensures)
 
-pub loop-i-smaller : goal.loop-i-smaller
-loop-i-smaller g c = omega (arith, c.loop-i-test.true)
-
-pub loop-i-preserved : goal.loop-i-preserved
-loop-i-preserved g c =
-    (c.loop-i.invariant.0 ∙ one-put g.W.Way.way c.args.six c.loop-i.i c.loop-i.place c.loop-i.dst (omega (arith, c.loop-i-test.true, c.requires.1)) c.target_units-units.ensures c.put.ensures, omega (arith, c.loop-i.invariant.1, c.target_units-units.ensures), omega (arith, c.loop-i-test.true), c.dst-1.given ∙ c.loop-i.invariant.3)
-
-pub shape_of-dst : goal.shape_of-dst
-shape_of-dst g c = c.loop-i.invariant.3
+pub loop-double-preserved : goal.loop-double-preserved
+loop-double-preserved g c =
+    (c.loop-double.invariant.0 ∙ one-put g.W.Way.way c.args.six c.loop-double.double-index c.loop-double.place (g.W.Way.kept c.loop-double.dst) (omega (arith, c.loop-double-test.true, c.requires.1)) c.target_units-units.ensures c.put.ensures, omega (arith, c.loop-double.invariant.1, c.target_units-units.ensures))
 
 pub returns : goal.returns
 returns g c =
-    sym (c.loop-i.invariant.0 ∙ all-put g.W.Way.way c.args.six c.loop-i.i c.loop-i.place c.loop-i.dst (omega (arith, c.loop-i-test.false, c.requires.1)))
+    sym (c.loop-double.invariant.0 ∙ all-put g.W.Way.way c.args.six c.loop-double.double-index c.loop-double.place (g.W.Way.kept c.loop-double.dst) (omega (arith, c.loop-double-test.false, c.requires.1)))

@@ -2,14 +2,10 @@ use Rattle.ways.specs.Carries.{Progress}
 use Rattle.drawing.specs.Path.{segment}
 use Rattle.format.specs.Pass.{◌⟫◌}
 use Rattle.format.specs.Layout.{repeat}
-use lib.ListN.{length}
+use Prim.Native.Nat.{◌-◌}
 use mathlib.Core.Option.{none}
 use mathlib.Core.Bool.{false}
-use mathlib.Core.Path.{◌≡◌, ◌∙◌}
 use Rattle.layout_objects.proofs.segment.segments.Given as goal
 
-abbrev pub invariant-loop-left : goal.invariant-loop-left
-invariant-loop-left g l = Progress (λ K. repeat l.count (segment false none) ⟫ K) (λ K. repeat l.left (segment false none) ⟫ K) g.W.Way.way (g.W.Way.units l.src) (g.W.Way.kept l.initial.dst) (g.W.Way.kept l.dst) l.at l.to l.behind.at l.behind.to × (length (g.W.Way.kept l.dst) ≡ length (g.W.Way.kept l.initial.dst))
-
-abbrev pub decreases-loop-left : goal.decreases-loop-left
-decreases-loop-left g l = l.left
+abbrev pub invariant-loop : goal.invariant-loop
+invariant-loop g l = Progress (λ K. repeat l.count (segment false none) ⟫ K) (λ K. repeat (l.count - l.counter) (segment false none) ⟫ K) g.W.Way.way (g.W.Way.units l.src) (g.W.Way.kept l.initial.dst) (g.W.Way.kept l.dst) l.at l.to l.behind.at l.behind.to

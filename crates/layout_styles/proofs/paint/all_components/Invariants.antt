@@ -1,12 +1,6 @@
 use Rattle.ways.specs.Moves.{AllAllowed}
 use Rattle.drawing.specs.Fields as F
-use Rattle.format.specs.Kind.{Allowed}
-use Prim.Native.Nat.{◌+◌, ◌-◌, ◌*◌, ◌≤◌}
-use mathlib.Core.Path.{◌≡◌, ◌∙◌}
 use Rattle.layout_styles.proofs.paint.all_components.Given as goal
 
 abbrev pub invariant-loop-i : goal.invariant-loop-i
-invariant-loop-i g l = (l.i ≤ l.count) × AllAllowed g.W.Way.way F.component 4 l.i (g.W.Way.units l.src) l.from
-
-abbrev pub decreases-loop-i : goal.decreases-loop-i
-decreases-loop-i g l = l.count - l.i
+invariant-loop-i g l = AllAllowed g.W.Way.way F.component 4 l.i (g.W.Way.units l.src) l.from

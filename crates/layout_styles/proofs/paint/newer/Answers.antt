@@ -15,4 +15,4 @@ returns-then-letter-eq-HSB g c =
 
 pub returns : goal.returns
 returns g c =
-    plain-refused c.args.version (BELOW) c.requires.begins c.requires.way_in_bounds.0 (ap (letter_fault c.args.version) (sym c.requires.way_in_bounds.1) ∙ no_letter c.args.version c.args.letter c.requires.way_in_bounds.3 c.requires.way_in_bounds.4 c.requires.way_in_bounds.5 (λ new. (c.if-letter-eq-GREY.false, c.if-letter-eq-HSB.false))) c.refusal.ensures
+    plain-refused c.args.version c.requires.below c.requires.begins c.requires.way_in_bounds.0 (ap (letter_fault c.args.version) (sym c.requires.way_in_bounds.1) ∙ no_letter c.args.version c.args.letter c.requires.way_in_bounds.3 c.requires.way_in_bounds.4 c.requires.way_in_bounds.5 (λ new. (c.if-letter-eq-GREY.false, c.if-letter-eq-HSB.false))) c.refusal.ensures

@@ -11,7 +11,7 @@ use Rattle.layout_styles.proofs.paint.plain.Goals as goal
 pub keep-requires : goal.keep-requires
 keep-requires g c =
     let is : value_at g.W.Way.way 2 (g.W.Way.units c.args.src.now) c.args.at ≡ 84 = sym c.get-letter.ensures.value.0 ∙ c.if-letter-eq-TRANSPARENT.true in
-    record { begins = c.requires.begins; size_value = (refl, c.requires.way_in_bounds, omega (arith, is)) }
+    record { begins = c.requires.begins; size_value = (refl, c.requires.way_in_bounds, λ below. omega (arith, is)) }
 
 pub returns-then-letter-eq-TRANSPARENT : goal.returns-then-letter-eq-TRANSPARENT
 returns-then-letter-eq-TRANSPARENT g c =
@@ -32,4 +32,4 @@ returns-then-letter-eq-CMYK g c =
 
 pub returns-then-version-lt-V1_4 : goal.returns-then-version-lt-V1_4
 returns-then-version-lt-V1_4 g c =
-    plain-refused c.args.version c.keep.ensures.below c.requires.begins c.requires.way_in_bounds (ap (letter_fault c.args.version) (sym c.get-letter.ensures.value.0) ∙ no_letter c.args.version c.get-letter.result c.if-letter-eq-TRANSPARENT.false c.if-letter-eq-RGB.false c.if-letter-eq-CMYK.false (λ new. absurd (omega (arith, new, c.if-version-lt-V1_4.true)))) c.refusal.ensures
+    plain-refused c.args.version c.get-letter.ensures.below c.requires.begins c.requires.way_in_bounds (ap (letter_fault c.args.version) (sym c.get-letter.ensures.value.0) ∙ no_letter c.args.version c.get-letter.result c.if-letter-eq-TRANSPARENT.false c.if-letter-eq-RGB.false c.if-letter-eq-CMYK.false (λ new. absurd (omega (arith, new, c.if-version-lt-V1_4.true)))) c.refusal.ensures
