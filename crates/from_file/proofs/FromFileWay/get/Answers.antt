@@ -1,4 +1,3 @@
-use native.Mathlib.Omega.{arith}
 use borrow.Author.Rules.{rules}
 use mathlib.Core.Path.{◌≡◌}
 use Rattle.memory.specs.SizeLaws.{field_eight}
@@ -6,11 +5,6 @@ use Rattle.ways.specs.StepLaws.{there_below}
 use Rattle.ways.specs.Way.{value_at}
 use Rattle.from_file.specs.Way.{way, units_below}
 use Rattle.from_file.proofs.FromFileWay.get.Goals as goal
-
-pub double_at-requires : goal.double_at-requires
-double_at-requires c =
-    let eight : c.args.size ≡ 8 = field_eight c.args.size c.requires.0 (search rules) (search rules) (search rules) in
-    omega (arith, c.requires.1, eight)
 
 pub returns-in-1 : goal.returns-in-1
 returns-in-1 c =

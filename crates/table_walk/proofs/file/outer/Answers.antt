@@ -1,18 +1,9 @@
 -- `table_walk::file::outer` meets its contract.
-use mathlib.Core.Path.{refl, sym, ◌∙◌}
+use mathlib.Core.Path.{sym, ◌∙◌}
 use lib.ListN.{length}
-use borrow.Author.Tests.{leb-true, leb-false}
-use Rattle.walks.specs.WalkingLaws.{walks-lost}
-use Rattle.walks.specs.FileWalkLaws.{outer-short, outer_rows, outer-whole, outer_partly}
+use borrow.Author.Tests.{leb-true}
+use Rattle.walks.specs.FileWalkLaws.{outer-whole, outer_partly}
 use Rattle.table_walk.proofs.file.outer.Goals as goal
-
-pub group-walked-requires : goal.group-walked-requires
-group-walked-requires g c =
-    record { stands = c.requires; row_width_in_bounds = leb-true 4 (length (g.C.Cell.cells c.args.contents.now)) (sym c.has_row.ensures ∙ c.if-has_row.true) }
-
-pub is_whole-requires : goal.is_whole-requires
-is_whole-requires g c =
-    outer_rows c.args.version (g.C.Cell.cells c.args.contents.now) (g.W.Way.units c.args.words.now) c.args.at c.args.to (leb-true 4 (length (g.C.Cell.cells c.args.contents.now)) (sym c.has_row.ensures ∙ c.if-has_row.true)) c.group-walked.ensures
 
 pub returns-then-is_whole : goal.returns-then-is_whole
 returns-then-is_whole g c =
@@ -21,7 +12,3 @@ returns-then-is_whole g c =
 pub returns-then-has_row : goal.returns-then-has_row
 returns-then-has_row g c =
     outer_partly c.args.version (g.C.Cell.cells c.args.contents.now) (g.W.Way.units c.args.words.now) c.args.at c.args.to (leb-true 4 (length (g.C.Cell.cells c.args.contents.now)) (sym c.has_row.ensures ∙ c.if-has_row.true)) c.group-walked.ensures (sym c.is_whole.ensures ∙ c.if-is_whole.false) c.no_table.ensures
-
-pub returns : goal.returns
-returns g c =
-    walks-lost (outer-short c.args.version (g.C.Cell.cells c.args.contents.now) (g.W.Way.units c.args.words.now) c.args.at c.args.to (leb-false 4 (length (g.C.Cell.cells c.args.contents.now)) (sym c.has_row.ensures ∙ c.if-has_row.false))) c.no_table-2.ensures refl

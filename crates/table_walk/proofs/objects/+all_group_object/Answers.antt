@@ -5,85 +5,28 @@ use lib.ListN.{length}
 use native.Mathlib.Omega.{arith}
 use borrow.Author.Tests.{leb-true, leb-false}
 use Rattle.walks.specs.Walks.{Counted}
-use Rattle.walks.specs.WalkingLaws.{row_stands, walks-lost}
-use Rattle.walks.specs.MemberWalkLaws.{members_begin, members-lost, members-again, members_end}
-use Rattle.walks.specs.GroupWalkLaws.{group_uncounted, group_members-lost, members_stand, group_walks}
+use Rattle.walks.specs.WalkingLaws.{walks-lost}
+use Rattle.walks.specs.MemberWalkLaws.{members_begin, members-again, members_end}
+use Rattle.walks.specs.GroupWalkLaws.{group_uncounted, group_members-lost, group_walks}
 use Rattle.walks.specs.ObjectWalkLaws.{object-short, object_leaf, object_group}
-use Prim.Native.Nat.{◌+◌, ◌*◌, ◌<◌}
-use borrow.Author.Rules.{rules}
+use Prim.Native.Nat.{◌+◌, ◌*◌}
 use Rattle.table_walk.proofs.objects.+all_group_object.Goals as goal
 
 pub all-loop-left-init : goal.all-loop-left-init
 all-loop-left-init g t c =
     members_begin c.args.version c.args.deep c.args.parent c.args.count (g.C.Cell.cells c.args.contents.now) (g.W.Way.units c.args.words.now) c.args.out.now c.args.at c.args.to c.args.first c.requires
 
-pub all-object-reached-requires : goal.all-object-reached-requires
-all-object-reached-requires g t c =
-    let stands = c.loop-left.invariant.stands in search rules
-
-pub all-shape_of-out-then-reached-ge-REFUSED : goal.all-shape_of-out-then-reached-ge-REFUSED
-all-shape_of-out-then-reached-ge-REFUSED g t c = c.out-1.given ∙ c.loop-left.invariant.written.same_length
-
-pub all-returns-then-reached-ge-REFUSED : goal.all-returns-then-reached-ge-REFUSED
-all-returns-then-reached-ge-REFUSED g t c =
-    members-lost c.args.version c.args.deep c.args.parent c.args.count (g.C.Cell.cells c.args.contents.now) (g.W.Way.units c.args.words.now) c.args.out.now c.args.at c.args.to c.args.first c.loop-left.invariant c.loop-left-test.true c.object-reached.ensures c.if-reached-ge-REFUSED.true
-
-pub all-overflow_sub-left : goal.all-overflow_sub-left
-all-overflow_sub-left g t c = omega (arith, c.loop-left-test.true)
-
-pub all-loop-left-smaller : goal.all-loop-left-smaller
-all-loop-left-smaller g t c = omega (arith, c.loop-left-test.true)
-
 pub all-loop-left-preserved : goal.all-loop-left-preserved
 all-loop-left-preserved g t c =
     members-again c.args.version c.args.deep c.args.parent c.args.count (g.C.Cell.cells c.args.contents.now) (g.W.Way.units c.args.words.now) c.args.out.now c.args.at c.args.to c.args.first c.loop-left.invariant c.loop-left-test.true c.object-reached.ensures (omega (arith, c.if-reached-ge-REFUSED.false))
-
-pub all-shape_of-out : goal.all-shape_of-out
-all-shape_of-out g t c = c.loop-left.invariant.written.same_length
 
 pub all-returns : goal.all-returns
 all-returns g t c =
     members_end c.args.version c.args.deep c.args.parent c.args.count (g.C.Cell.cells c.args.contents.now) (g.W.Way.units c.args.words.now) c.args.out.now c.args.at c.args.to c.args.first c.loop-left.invariant (λ more. omega (arith, more, c.loop-left-test.false))
 
-pub group-start_in-start-requires : goal.group-start_in-start-requires
-group-start_in-start-requires g t c = c.requires.row_width_in_bounds
-
-pub group-word_in-count-requires : goal.group-word_in-count-requires
-group-word_in-count-requires g t c = (c.has_count.ensures.yes c.if-has_count.true).inside
-
-pub group-put_opening-requires : goal.group-put_opening-requires
-group-put_opening-requires g t c =
-    omega (arith, c.requires.stands.few, c.requires.stands.inside, c.requires.stands.short, c.requires.stands.short-rows, c.requires.stands.rows_inside)
-
-pub group-overflow_add-to : goal.group-overflow_add-to
-group-overflow_add-to g t c =
-    omega (arith, c.requires.stands.few, c.requires.stands.inside, c.requires.stands.short, c.requires.stands.short-rows, c.requires.stands.rows_inside)
-
-pub group-overflow_add-row : goal.group-overflow_add-row
-group-overflow_add-row g t c =
-    omega (arith, c.requires.stands.few, c.requires.stands.inside, c.requires.stands.short, c.requires.stands.short-rows, c.requires.stands.rows_inside)
-
-pub group-overflow_cast-row : goal.group-overflow_cast-row
-group-overflow_cast-row g t c =
-    omega (arith, c.requires.stands.few, c.requires.stands.inside, c.requires.stands.short, c.requires.stands.short-rows, c.requires.stands.rows_inside)
-
-pub group-all-inner-requires : goal.group-all-inner-requires
-group-all-inner-requires g t c =
-    let stands = row_stands 6 (omega arith) c.requires.row_width_in_bounds c.requires.stands in search rules
-
-pub group-shape_of-out-then-inner-ge-REFUSED : goal.group-shape_of-out-then-inner-ge-REFUSED
-group-shape_of-out-then-inner-ge-REFUSED g t c = c.out-then-has_count-1.given ∙ c.out-1.given
-
 pub group-returns-then-inner-ge-REFUSED : goal.group-returns-then-inner-ge-REFUSED
 group-returns-then-inner-ge-REFUSED g t c =
     walks-lost (group_members-lost c.args.version c.args.deep c.args.parent (g.C.Cell.cells c.args.contents.now) (g.W.Way.units c.args.words.now) c.args.row c.args.at c.requires.row_width_in_bounds c.are_words.ensures (c.word_in-count.ensures ∙ ap (λ i. get_or (g.W.Way.units c.args.words.now) i 0) c.start_in-start.ensures) c.all-inner.ensures c.if-inner-ge-REFUSED.true) c.if-inner-ge-REFUSED.true (c.out-then-has_count-1.given ∙ c.out-1.given)
-
-pub group-own_body-requires : goal.group-own_body-requires
-group-own_body-requires g t c =
-    record { stands = members_stand c.args.version c.args.deep c.args.parent (g.C.Cell.cells c.args.contents.now) (g.W.Way.units c.args.words.now) c.args.row c.args.at c.requires.row_width_in_bounds c.are_words.ensures (c.word_in-count.ensures ∙ ap (λ i. get_or (g.W.Way.units c.args.words.now) i 0) c.start_in-start.ensures) c.all-inner.ensures (omega (arith, c.if-inner-ge-REFUSED.false)); row_width_in_bounds = c.requires.row_width_in_bounds; counted = subst (Counted (g.W.Way.units c.args.words.now)) c.start_in-start.ensures (c.has_count.ensures.yes c.if-has_count.true) }
-
-pub group-shape_of-out-then-has_count : goal.group-shape_of-out-then-has_count
-group-shape_of-out-then-has_count g t c = c.out-then-has_count-2-1.given ∙ c.out-then-has_count-1.given ∙ c.out-1.given
 
 pub group-returns-then-has_count : goal.group-returns-then-has_count
 group-returns-then-has_count g t c =
@@ -93,44 +36,13 @@ pub group-returns : goal.group-returns
 group-returns g t c =
     walks-lost (group_uncounted c.args.version c.args.deep c.args.parent (g.C.Cell.cells c.args.contents.now) (g.W.Way.units c.args.words.now) c.args.row c.args.at c.requires.row_width_in_bounds c.are_words.ensures (λ counted. c.has_count.ensures.no c.if-has_count.false (subst (Counted (g.W.Way.units c.args.words.now)) (sym c.start_in-start.ensures) counted))) c.no_table.ensures refl
 
-pub object-has_row-requires : goal.object-has_row-requires
-object-has_row-requires g t c = omega (arith, c.requires.rows_inside, c.requires.short-rows)
-
-pub object-leaf-requires : goal.object-leaf-requires
-object-leaf-requires g t c =
-    record { stands = c.requires; row_width_in_bounds = (leb-true (4 * c.args.row + 4) (length (g.C.Cell.cells c.args.contents.now)) (sym c.has_row.ensures ∙ c.if-has_row.true)) }
-
-pub object-shape_of-out-then-deep-eq0 : goal.object-shape_of-out-then-deep-eq0
-object-shape_of-out-then-deep-eq0 g t c = c.out-1.given
-
 pub object-returns-then-deep-eq0 : goal.object-returns-then-deep-eq0
 object-returns-then-deep-eq0 g t c =
     object_leaf (g.C.Cell.cells c.args.contents.now) (g.W.Way.units c.args.words.now) c.args.version c.args.parent c.args.row c.args.at (leb-true (4 * c.args.row + 4) (length (g.C.Cell.cells c.args.contents.now)) (sym c.has_row.ensures ∙ c.if-has_row.true)) c.args.deep (λ some. absurd (omega (arith, some, c.if-deep-eq0.true))) c.leaf.ensures
 
-pub object-kind_in-requires : goal.object-kind_in-requires
-object-kind_in-requires g t c =
-    (leb-true (4 * c.args.row + 4) (length (g.C.Cell.cells c.args.contents.now)) (sym c.has_row.ensures ∙ c.if-has_row.true))
-
-pub object-overflow_sub-deep : goal.object-overflow_sub-deep
-object-overflow_sub-deep g t c = omega (arith, c.if-deep-eq0.false)
-
-pub object-group-requires : goal.object-group-requires
-object-group-requires g t c =
-    let here = leb-true (4 * c.args.row + 4) (length (g.C.Cell.cells c.args.contents.now)) (sym c.has_row.ensures ∙ c.if-has_row.true) in search rules
-
-pub object-shape_of-out-then-kind_in-eq-GROUP_KIND : goal.object-shape_of-out-then-kind_in-eq-GROUP_KIND
-object-shape_of-out-then-kind_in-eq-GROUP_KIND g t c = c.out-then-kind_in-eq-GROUP_KIND-1.given
-
 pub object-returns-then-kind_in-eq-GROUP_KIND : goal.object-returns-then-kind_in-eq-GROUP_KIND
 object-returns-then-kind_in-eq-GROUP_KIND g t c =
     object_group (g.C.Cell.cells c.args.contents.now) (g.W.Way.units c.args.words.now) c.args.version c.args.parent c.args.row c.args.at (leb-true (4 * c.args.row + 4) (length (g.C.Cell.cells c.args.contents.now)) (sym c.has_row.ensures ∙ c.if-has_row.true)) c.args.deep (omega (arith, c.if-deep-eq0.false)) (sym c.kind_in.ensures ∙ c.if-kind_in-eq-GROUP_KIND.true) c.group.ensures
-
-pub object-leaf-requires-then-has_row : goal.object-leaf-requires-then-has_row
-object-leaf-requires-then-has_row g t c =
-    record { stands = c.requires; row_width_in_bounds = (leb-true (4 * c.args.row + 4) (length (g.C.Cell.cells c.args.contents.now)) (sym c.has_row.ensures ∙ c.if-has_row.true)) }
-
-pub object-shape_of-out-then-has_row : goal.object-shape_of-out-then-has_row
-object-shape_of-out-then-has_row g t c = c.out-then-has_row-1.given
 
 pub object-returns-then-has_row : goal.object-returns-then-has_row
 object-returns-then-has_row g t c =

@@ -1,6 +1,5 @@
-use mathlib.Core.Path.{◌∙◌}
 use Rattle.walks.specs.MemberWalkLaws.{Going}
-use Prim.Native.Nat.{◌+◌, ◌*◌, ◌<◌}
+use Prim.Native.Nat.{◌+◌, ◌*◌}
 use Rattle.table_walk.proofs.objects.+all_group_object.Given as goal
 
 abbrev pub invariant-all-loop-left : goal.invariant-all-loop-left

@@ -1,9 +1,8 @@
 -- `table_walk::objects::leaf` meets its contract.
-use mathlib.Core.Path.{refl, sym, ◌∙◌}
+use mathlib.Core.Path.{sym, ◌∙◌}
 use Rattle.drawing.specs.LeafLayout.{leaf_body}
 use Rattle.walks.specs.BodyLaws.{body_forward}
-use Rattle.walks.specs.WalkingLaws.{walks-lost}
-use Rattle.walks.specs.LeafWalkLaws.{leaf_other, leaf_walks}
+use Rattle.walks.specs.LeafWalkLaws.{leaf_walks}
 use Rattle.table_walk.proofs.TableLaws.{laid, stored}
 use Rattle.table_walk.proofs.objects.leaf.Goals as goal
 
@@ -14,7 +13,3 @@ rowed-requires g c =
 pub returns-then-is_leaf : goal.returns-then-is_leaf
 returns-then-is_leaf g c =
     leaf_walks (g.C.Cell.cells c.args.contents.now) (g.W.Way.units c.args.words.now) c.args.version c.args.parent c.args.row c.args.at c.requires.row_width_in_bounds c.kind_in-kind.ensures (sym c.is_leaf.ensures ∙ c.if-is_leaf.true) c.letter_of-letter.ensures.0 c.are_words.ensures c.requires.stands (stored g.met.W.Words.of_table g.met.W.Words.bytes 2 c.args.to c.letter_of-letter.result c.args.out.now c.put.ensures) (laid g.met.W.Words.of_table g.met.W.Words.bytes (leaf_body c.args.version c.letter_of-letter.result) c.leaf_body-body.ensures) c.rowed.ensures
-
-pub returns : goal.returns
-returns g c =
-    λ deep. walks-lost (leaf_other (g.C.Cell.cells c.args.contents.now) (g.W.Way.units c.args.words.now) c.args.version c.args.parent c.args.row c.args.at c.requires.row_width_in_bounds c.kind_in-kind.ensures (sym c.is_leaf.ensures ∙ c.if-is_leaf.false)) c.no_table.ensures refl

@@ -1,5 +1,5 @@
 -- `table_walk::objects::own_body` meets its contract.
-use Rattle.walks.specs.OwnWalkLaws.{own_walks, own_ended}
+use Rattle.walks.specs.OwnWalkLaws.{own_walks}
 use Rattle.walks.specs.BodyLaws.{body_forward}
 use Rattle.drawing.specs.LeafLayout.{object_end}
 use native.Mathlib.Omega.{arith}
@@ -13,7 +13,3 @@ rowed-requires g c =
 pub returns-then-at-source_length : goal.returns-then-at-source_length
 returns-then-at-source_length g c =
     own_walks c.args.version c.args.parent (g.C.Cell.cells c.args.contents.now) (g.W.Way.units c.args.words.now) c.args.row c.args.next c.args.at c.requires.row_width_in_bounds c.are_words.ensures c.requires.stands c.requires.counted (omega (arith, c.if-at-source_length.true, c.source_length.ensures)) (laid g.met.W.Words.of_table g.met.W.Words.bytes (object_end c.args.version) c.group_end-ended.ensures) c.rowed.ensures
-
-pub returns : goal.returns
-returns g c =
-    own_ended c.args.version c.args.parent (g.C.Cell.cells c.args.contents.now) (g.W.Way.units c.args.words.now) c.args.row c.args.next c.args.at c.requires.row_width_in_bounds c.requires.counted (omega (arith, c.if-at-source_length.false, c.source_length.ensures)) c.no_table.ensures
