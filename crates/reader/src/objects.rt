@@ -243,13 +243,12 @@ pub fn all(
     requires { Stands (length file.now) at first to }
     ensures { DescendsMembers file.now version deep parent count at first to contents.old bodies.old contents.new bodies.new result }
 {
-    let mut left = count;
     let mut reached = Walked {
         row: first,
         at: at,
         to: to,
     };
-    while 0 < left {
+    for _ in 0..count {
         reached = object(
             &*file,
             contents,
@@ -264,7 +263,6 @@ pub fn all(
         if REFUSED <= reached.at {
             return reached;
         }
-        left = left - 1;
     }
     reached
 }

@@ -213,13 +213,12 @@ pub fn all<C: Cell, W: Words>(
     requires { Stands (C.cells contents.now) (W.units words.now) first at to }
     ensures { WalksMany version deep parent count first (C.cells contents.now) (W.units words.now) out.old out.new at to result }
 {
-    let mut left = count;
     let mut reached = Walked {
         row: first,
         at: at,
         to: to,
     };
-    while 0 < left {
+    for _ in 0..count {
         reached = object::<C, W>(
             &*contents,
             &*words,
@@ -234,7 +233,6 @@ pub fn all<C: Cell, W: Words>(
         if REFUSED <= reached.at {
             return reached;
         }
-        left = left - 1;
     }
     reached
 }

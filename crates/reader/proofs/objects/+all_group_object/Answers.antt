@@ -1,52 +1,48 @@
 -- `all`, `group` and `object` of `reader::objects`, which call one another, meet their contracts: the depth left falls at each group.
 use native.Mathlib.Omega.{arith}
 use mir.Syntax.{w8}
-use mathlib.Core.Path.{◌∙◌}
+use mathlib.Core.Path.{◌≡◌, ◌∙◌}
 use Rattle.reader.specs.ObjectLaws.{behind_id, object_as_leaf, object_as_group}
 use Rattle.reader.specs.GroupLaws.{group_refused, group_members, group_stop, group_tail, row_before, group_descends}
 use Rattle.reader.specs.MemberLaws.{members_begin, members_stand, members_end, members-stop, members-again}
 use Rattle.reader.specs.BodyLaws.{stands_ready}
 use Rattle.format.specs.LeafLaws.{known_below}
-use Prim.Native.Nat.{◌+◌, ◌*◌, ◌<◌}
+use Prim.Native.Nat.{◌+◌, ◌-◌, ◌*◌, ◌<◌}
 use Rattle.reader.proofs.objects.+all_group_object.Goals as goal
 
-pub all-loop-left-init : goal.all-loop-left-init
-all-loop-left-init t c =
-    members_begin c.args.file.now c.args.version c.args.deep c.args.parent c.args.count c.args.at c.args.first c.args.to c.args.contents.now c.args.bodies.now c.requires
+pub all-loop-init : goal.all-loop-init
+all-loop-init t c =
+    let all : c.args.count - 0 ≡ c.args.count = omega arith in
+    rw all (members_begin c.args.file.now c.args.version c.args.deep c.args.parent c.args.count c.args.at c.args.first c.args.to c.args.contents.now c.args.bodies.now c.requires)
 
 pub all-object-reached-requires : goal.all-object-reached-requires
 all-object-reached-requires t c =
-    (omega (arith, c.decreases), members_stand c.args.file.now c.args.version c.args.deep c.args.parent c.args.count c.args.at c.args.first c.args.to c.args.contents.now c.args.bodies.now c.requires c.loop-left.invariant)
+    (omega (arith, c.decreases), members_stand c.args.file.now c.args.version c.args.deep c.args.parent c.args.count c.args.at c.args.first c.args.to c.args.contents.now c.args.bodies.now c.requires c.loop.invariant)
 
 pub all-shape_of-contents-then-reached-ge-REFUSED : goal.all-shape_of-contents-then-reached-ge-REFUSED
-all-shape_of-contents-then-reached-ge-REFUSED t c = c.contents-1.given ∙ c.loop-left.invariant.met.rows_written.same_length
+all-shape_of-contents-then-reached-ge-REFUSED t c = c.contents-1.given ∙ c.loop.invariant.met.rows_written.same_length
 
 pub all-shape_of-bodies-then-reached-ge-REFUSED : goal.all-shape_of-bodies-then-reached-ge-REFUSED
-all-shape_of-bodies-then-reached-ge-REFUSED t c = c.bodies-1.given ∙ c.loop-left.invariant.met.words-written.same_length
+all-shape_of-bodies-then-reached-ge-REFUSED t c = c.bodies-1.given ∙ c.loop.invariant.met.words-written.same_length
 
 pub all-returns-then-reached-ge-REFUSED : goal.all-returns-then-reached-ge-REFUSED
 all-returns-then-reached-ge-REFUSED t c =
-    members-stop c.args.file.now c.args.version c.args.deep c.args.parent c.args.count c.args.at c.args.first c.args.to c.args.contents.now c.args.bodies.now c.requires c.loop-left.invariant c.loop-left-test.true c.object-reached.ensures c.if-reached-ge-REFUSED.true
+    members-stop c.args.file.now c.args.version c.args.deep c.args.parent c.args.count c.args.at c.args.first c.args.to c.args.contents.now c.args.bodies.now c.requires c.loop.invariant (omega (arith, c.loop-test.true)) c.object-reached.ensures c.if-reached-ge-REFUSED.true
 
-pub all-overflow_sub-left : goal.all-overflow_sub-left
-all-overflow_sub-left t c = omega (arith, c.loop-left-test.true)
-
-pub all-loop-left-smaller : goal.all-loop-left-smaller
-all-loop-left-smaller t c = omega (arith, c.loop-left-test.true)
-
-pub all-loop-left-preserved : goal.all-loop-left-preserved
-all-loop-left-preserved t c =
-    members-again c.args.file.now c.args.version c.args.deep c.args.parent c.args.count c.args.at c.args.first c.args.to c.args.contents.now c.args.bodies.now c.requires c.loop-left.invariant c.loop-left-test.true c.object-reached.ensures (omega (arith, c.if-reached-ge-REFUSED.false))
+pub all-loop-preserved : goal.all-loop-preserved
+all-loop-preserved t c =
+    let rest : c.args.count - c.loop.counter - 1 ≡ c.args.count - (c.loop.counter + 1) = omega arith in
+    rw (← rest) (members-again c.args.file.now c.args.version c.args.deep c.args.parent c.args.count c.args.at c.args.first c.args.to c.args.contents.now c.args.bodies.now c.requires c.loop.invariant (omega (arith, c.loop-test.true)) c.object-reached.ensures (omega (arith, c.if-reached-ge-REFUSED.false)))
 
 pub all-shape_of-contents : goal.all-shape_of-contents
-all-shape_of-contents t c = c.loop-left.invariant.met.rows_written.same_length
+all-shape_of-contents t c = c.loop.invariant.met.rows_written.same_length
 
 pub all-shape_of-bodies : goal.all-shape_of-bodies
-all-shape_of-bodies t c = c.loop-left.invariant.met.words-written.same_length
+all-shape_of-bodies t c = c.loop.invariant.met.words-written.same_length
 
 pub all-returns : goal.all-returns
 all-returns t c =
-    members_end c.args.file.now c.args.version c.args.deep c.args.parent c.args.count c.args.at c.args.first c.args.to c.args.contents.now c.args.bodies.now c.requires c.loop-left.invariant (λ h. omega (arith, c.loop-left-test.false))
+    members_end c.args.file.now c.args.version c.args.deep c.args.parent c.args.count c.args.at c.args.first c.args.to c.args.contents.now c.args.bodies.now c.requires c.loop.invariant (λ h. omega (arith, c.loop-test.false))
 
 pub group-count-counted-requires : goal.group-count-counted-requires
 group-count-counted-requires t c = stands_ready c.requires

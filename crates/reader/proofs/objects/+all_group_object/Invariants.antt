@@ -1,14 +1,11 @@
-use Prim.Native.Nat.{◌+◌, ◌*◌}
+use Prim.Native.Nat.{◌+◌, ◌-◌, ◌*◌}
 use mathlib.Core.Path.{◌∙◌}
 use Rattle.reader.specs.MemberLaws.{Going}
-use Prim.Native.Nat.{◌+◌, ◌*◌, ◌<◌}
+use Prim.Native.Nat.{◌+◌, ◌-◌, ◌*◌, ◌<◌}
 use Rattle.reader.proofs.objects.+all_group_object.Given as goal
 
-abbrev pub invariant-all-loop-left : goal.invariant-all-loop-left
-invariant-all-loop-left l = Going l.file l.version l.deep l.parent l.count l.at l.first l.to l.initial.contents l.initial.bodies l.left l.contents l.bodies l.reached
-
-abbrev pub decreases-all-loop-left : goal.decreases-all-loop-left
-decreases-all-loop-left l = l.left
+abbrev pub invariant-all-loop : goal.invariant-all-loop
+invariant-all-loop l = Going l.file l.version l.deep l.parent l.count l.at l.first l.to l.initial.contents l.initial.bodies (l.count - l.counter) l.contents l.bodies l.reached
 
 abbrev pub decreases-all : goal.decreases-all
 decreases-all l = 3 * l.deep + 1

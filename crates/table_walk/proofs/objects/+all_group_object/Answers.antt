@@ -1,6 +1,6 @@
 -- `all`, `group` and `object` of `table_walk::objects`, which call one another, meet their contracts: the depth left falls at each group.
 use lib.ListN.{get_or}
-use mathlib.Core.Path.{refl, sym, ap, subst, ◌∙◌}
+use mathlib.Core.Path.{◌≡◌, refl, sym, ap, subst, ◌∙◌}
 use lib.ListN.{length}
 use native.Mathlib.Omega.{arith}
 use borrow.Author.Tests.{leb-true, leb-false}
@@ -9,20 +9,22 @@ use Rattle.walks.specs.WalkingLaws.{walks-lost}
 use Rattle.walks.specs.MemberWalkLaws.{members_begin, members-again, members_end}
 use Rattle.walks.specs.GroupWalkLaws.{group_uncounted, group_members-lost, group_walks}
 use Rattle.walks.specs.ObjectWalkLaws.{object-short, object_leaf, object_group}
-use Prim.Native.Nat.{◌+◌, ◌*◌}
+use Prim.Native.Nat.{◌+◌, ◌-◌, ◌*◌}
 use Rattle.table_walk.proofs.objects.+all_group_object.Goals as goal
 
-pub all-loop-left-init : goal.all-loop-left-init
-all-loop-left-init g t c =
-    members_begin c.args.version c.args.deep c.args.parent c.args.count (g.C.Cell.cells c.args.contents.now) (g.W.Way.units c.args.words.now) c.args.out.now c.args.at c.args.to c.args.first c.requires
+pub all-loop-init : goal.all-loop-init
+all-loop-init g t c =
+    let all : c.args.count - 0 ≡ c.args.count = omega arith in
+    rw all (members_begin c.args.version c.args.deep c.args.parent c.args.count (g.C.Cell.cells c.args.contents.now) (g.W.Way.units c.args.words.now) c.args.out.now c.args.at c.args.to c.args.first c.requires)
 
-pub all-loop-left-preserved : goal.all-loop-left-preserved
-all-loop-left-preserved g t c =
-    members-again c.args.version c.args.deep c.args.parent c.args.count (g.C.Cell.cells c.args.contents.now) (g.W.Way.units c.args.words.now) c.args.out.now c.args.at c.args.to c.args.first c.loop-left.invariant c.loop-left-test.true c.object-reached.ensures (omega (arith, c.if-reached-ge-REFUSED.false))
+pub all-loop-preserved : goal.all-loop-preserved
+all-loop-preserved g t c =
+    let rest : c.args.count - c.loop.counter - 1 ≡ c.args.count - (c.loop.counter + 1) = omega arith in
+    rw (← rest) (members-again c.args.version c.args.deep c.args.parent c.args.count (g.C.Cell.cells c.args.contents.now) (g.W.Way.units c.args.words.now) c.args.out.now c.args.at c.args.to c.args.first c.loop.invariant (omega (arith, c.loop-test.true)) c.object-reached.ensures (omega (arith, c.if-reached-ge-REFUSED.false)))
 
 pub all-returns : goal.all-returns
 all-returns g t c =
-    members_end c.args.version c.args.deep c.args.parent c.args.count (g.C.Cell.cells c.args.contents.now) (g.W.Way.units c.args.words.now) c.args.out.now c.args.at c.args.to c.args.first c.loop-left.invariant (λ more. omega (arith, more, c.loop-left-test.false))
+    members_end c.args.version c.args.deep c.args.parent c.args.count (g.C.Cell.cells c.args.contents.now) (g.W.Way.units c.args.words.now) c.args.out.now c.args.at c.args.to c.args.first c.loop.invariant (λ more. omega (arith, more, c.loop-test.false))
 
 pub group-returns-then-inner-ge-REFUSED : goal.group-returns-then-inner-ge-REFUSED
 group-returns-then-inner-ge-REFUSED g t c =
