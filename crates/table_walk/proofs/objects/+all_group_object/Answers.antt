@@ -6,7 +6,7 @@ use native.Mathlib.Omega.{arith}
 use borrow.Author.Tests.{leb-true, leb-false}
 use Rattle.walks.specs.Walks.{Counted}
 use Rattle.walks.specs.WalkingLaws.{walks-lost}
-use Rattle.walks.specs.MemberWalkLaws.{members_begin, members-again, members_end}
+use Rattle.walks.specs.MemberWalkLaws.{members_begin, members-lost, members-again, members_end}
 use Rattle.walks.specs.GroupWalkLaws.{group_uncounted, group_members-lost, group_walks}
 use Rattle.walks.specs.ObjectWalkLaws.{object-short, object_leaf, object_group}
 use Prim.Native.Nat.{◌+◌, ◌-◌, ◌*◌}
@@ -16,6 +16,10 @@ pub all-loop-init : goal.all-loop-init
 all-loop-init g t c =
     let all : c.args.count - 0 ≡ c.args.count = omega arith in
     rw all (members_begin c.args.version c.args.deep c.args.parent c.args.count (g.C.Cell.cells c.args.contents.now) (g.W.Way.units c.args.words.now) c.args.out.now c.args.at c.args.to c.args.first c.requires)
+
+pub all-returns-then-reached-ge-REFUSED : goal.all-returns-then-reached-ge-REFUSED
+all-returns-then-reached-ge-REFUSED g t c =
+    members-lost c.args.version c.args.deep c.args.parent c.args.count (g.C.Cell.cells c.args.contents.now) (g.W.Way.units c.args.words.now) c.args.out.now c.args.at c.args.to c.args.first c.loop.invariant (omega (arith, c.loop-test.true)) c.object-reached.ensures c.if-reached-ge-REFUSED.true
 
 pub all-loop-preserved : goal.all-loop-preserved
 all-loop-preserved g t c =
