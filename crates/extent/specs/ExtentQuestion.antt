@@ -1,7 +1,8 @@
 -- How the question about a box is answered, and where an outline stands.
-use Rattle.std.specs.Prelude.{◌≡◌, Bool, ◌||◌, ℕ, List, eqb}
+use Rattle.std.specs.Prelude.{◌≡◌, Bool, ◌||◌, ℕ, List, eqb, Result, Ok, Err}
 use Rattle.std.proofs.Math.Option.{some}
 use Rattle.format.specs.Layout.{◌&◌}
+use Rattle.drawing.specs.declared.Extent.{Extent}
 use Rattle.drawing.specs.declared.ExtentAnswer.{ExtentAnswer}
 use Rattle.drawing.specs.String.{String, string}
 use Rattle.drawing.specs.Paint as P
@@ -9,17 +10,20 @@ use Rattle.drawing.specs.LineStyle.{line_style}
 use Rattle.drawing.specs.Path.{Path, Outline, outline}
 use Rattle.drawing.specs.Text as T
 use Rattle.drawing.specs.TextPath.{TextPath}
-use Rattle.drawing.specs.Object.{Object, Leaf, leaf}
+use Rattle.drawing.specs.Object.{Leaf, leaf}
 use Rattle.drawing.specs.Table.{path_kind, text_path_kind}
-use Rattle.drawing.specs.Questions.{part, or_refusal, leaf_part}
-use Rattle.drawing.specs.Extent.{extent_of, outline_in}
+use Rattle.drawing.specs.Questions.{part}
+use Rattle.drawing.specs.Extent.{no_extent, extent_of, outline_in}
 use Rattle.drawing.specs.Computed.{extent_value}
 use Rattle.laws.specs.RowBodies.{RowBody}
 use Rattle.laws.specs.Standing.{Here}
+use Rattle.questions.specs.declared.asked.Refusal.{Refusal}
+use Rattle.questions.specs.Asking.{number_of}
 
--- The answer for the object of a row, in a table of this version.
-abbrev pub ExtentOf : (contents bodies : List ℕ) → (version row : ℕ) → ExtentAnswer → Type 0
-ExtentOf c bs v row r = (o : Object) → RowBody c bs v row o → r ≡ extent_value (extent_of v (or_refusal 7 (leaf_part outline_in o)))
+-- The answer with what was found: the box, or a refusal.
+abbrev pub extent_found : Result Extent Refusal → ExtentAnswer
+extent_found (Ok b) = record { number = 0; extent = b }
+extent_found (Err e) = extent_value (no_extent (number_of e))
 
 -- The answer for the outline that stands here.
 abbrev pub OutlineRead : (bodies : List ℕ) → (version at : ℕ) → ExtentAnswer → Type 0

@@ -1,5 +1,5 @@
 -- The points that stand in words, and the box around points, as the code finds it one point after the other.
-use Rattle.std.specs.Prelude.{Bool, cond, ◌||◌, ℕ, zero, suc, ◌+◌, ◌*◌, ◌^◌, ◌≤◌, List, [], ◌∷◌, ◌++◌, length, get_or, eqb}
+use Rattle.std.specs.Prelude.{Bool, cond, ◌||◌, ℕ, zero, suc, ◌+◌, ◌*◌, ◌^◌, ◌≤◌, List, [], ◌∷◌, ◌++◌, length, get_or, eqb, Option, None, Some}
 use Prim.Native.Char.{code}
 use Rattle.std.specs.Float.{binary64}
 use Rattle.std.specs.Float.Ieee.{nan_bits}
@@ -64,3 +64,8 @@ folded b ps = cond (any_na_n ps) (extent_value (no_extent not_a_number)) (record
 -- The answer for all points of an outline.
 unfoldable pub boxed : List Point → ExtentAnswer
 boxed ps = extent_value (cond (any_na_n ps) (no_extent not_a_number) (record { answer = answer 0 0 0 0; extent = box_of ps }))
+
+-- The answer with a box, or with none since some coordinate is not a number.
+abbrev pub box_answer : Option Extent → ExtentAnswer
+box_answer None = extent_value (no_extent not_a_number)
+box_answer (Some b) = record { number = 0; extent = b }

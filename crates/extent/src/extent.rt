@@ -1,37 +1,53 @@
 // The question about the box around a row's outline.
+ghost use Rattle.std.specs.Prelude.{◌≡◌};
 ghost use Rattle.promises.specs.Promises.{Extents};
-ghost use Rattle.places.specs.Rows.{HasRow};
-ghost use Rattle.extent.specs.ExtentQuestion.{ExtentOf};
+ghost use Rattle.drawing.specs.Computed.{extent_answer, extent_value};
+ghost use Rattle.drawing.specs.Extent.{no_extent};
+ghost use Rattle.extent.specs.ExtentQuestion.{extent_found};
 
 use crate::outline::{has_outline, outline_place};
-use crate::points::refused;
 use crate::segments::outline_extent;
-use drawing::ExtentAnswer;
-use drawing::numbers::{ACCEPTED, NO_PART, NO_ROW, NO_TABLE};
-use rows::look::kind_in;
-use table::answers::check;
+use drawing::numbers::ACCEPTED;
+use drawing::{Extent, ExtentAnswer};
+use questions::asked::{Refusal, asked};
 
-fn extent_of(contents: &[u32], words: &[u32], row: usize, version: u32) -> ExtentAnswer
-    requires { HasRow contents.now words.now version row }
-    ensures { ExtentOf contents.now words.now version row result }
+fn extent_of(contents: &[u32], words: &[u32], row: u32) -> Result<Extent, Refusal>
+    ensures { extent_found result ≡ extent_answer contents.now words.now row }
 {
-    if has_outline(kind_in(&*contents, row)) {
-        let at = outline_place(&*contents, &*words, row, version);
-        return outline_extent(&*words, at, version);
+    let row = asked(contents, words, row)?;
+    if has_outline(row.kind()) {
+        let at = outline_place(&row);
+        let Some(extent) = outline_extent(row.words, at, row.version) else {
+            return Err(Refusal::NotANumber);
+        };
+        return Ok(extent);
     }
-    refused(NO_PART)
+    Err(Refusal::NoPart)
+}
+
+// A refusal has a box of positive zeros.
+fn refused(number: u32) -> ExtentAnswer
+    ensures { result ≡ extent_value (no_extent number) }
+{
+    ExtentAnswer {
+        number,
+        extent: Extent {
+            left: 0.0,
+            bottom: 0.0,
+            right: 0.0,
+            top: 0.0,
+        },
+    }
 }
 
 pub fn extent(contents: &[u32], words: &[u32], row: u32) -> ExtentAnswer
     ensures { Extents contents.now words.now row result }
 {
-    let checked = check(&*contents, &*words);
-    if checked.number != ACCEPTED {
-        return refused(NO_TABLE);
+    match extent_of(contents, words, row) {
+        Ok(extent) => ExtentAnswer {
+            number: ACCEPTED,
+            extent,
+        },
+        Err(refusal) => refused(refusal.number()),
     }
-    if checked.rows <= row {
-        return refused(NO_ROW);
-    }
-    let version = words[0];
-    extent_of(&*contents, &*words, row as usize, version)
 }

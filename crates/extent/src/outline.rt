@@ -1,52 +1,45 @@
 // Where an outline stands, that of a path or that of a text along a path.
-ghost use Rattle.std.specs.Prelude.{◌≡◌, ◌≤◌, length};
-ghost use Rattle.drawing.specs.Limits.{length_limit};
-ghost use Rattle.places.specs.Rows.{HasRow};
+ghost use Rattle.std.specs.Prelude.{◌≡◌};
+ghost use Rattle.drawing.specs.Table.{start_in};
 ghost use Rattle.extent.specs.ExtentQuestion.{has_outline, InPath, InTextPath, OutlineOf};
 
 use drawing::row::{PATH_KIND, TEXT_PATH_KIND};
 use places::Part;
-use places::behind::behind;
-use rows::look::{kind_in, start_in};
+use places::row::Row;
 
 // An object of this kind has an outline.
 pub fn has_outline(kind: u32) -> bool
     ensures { result ≡ has_outline kind }
 {
-    if kind == PATH_KIND {
-        return true;
-    }
-    kind == TEXT_PATH_KIND
+    matches!(kind, PATH_KIND | TEXT_PATH_KIND)
 }
 
 // A path's outline stands behind its two paints and its line style.
-fn in_path(words: &[u32], start: usize, version: u32) -> usize
-    requires { (start ≤ length words.now) × (length words.now ≤ length_limit) }
-    ensures { InPath words.now version start result }
+fn in_path(row: &Row) -> usize
+    ensures { InPath row.now.words.now row.now.version (start_in row.now.contents.now row.now.row) result }
 {
-    let fill = behind(&*words, start, version, Part::Paint);
-    let style = behind(&*words, fill, version, Part::Paint);
-    behind(&*words, style, version, Part::LineStyle)
+    let start = row.start();
+    let fill = row.behind(start, Part::Paint);
+    let style = row.behind(fill, Part::Paint);
+    row.behind(style, Part::LineStyle)
 }
 
 // That of a text along a path stands behind its paint, its style and its string.
-fn in_text_path(words: &[u32], start: usize, version: u32) -> usize
-    requires { (start ≤ length words.now) × (length words.now ≤ length_limit) }
-    ensures { InTextPath words.now version start result }
+fn in_text_path(row: &Row) -> usize
+    ensures { InTextPath row.now.words.now row.now.version (start_in row.now.contents.now row.now.row) result }
 {
-    let style = behind(&*words, start, version, Part::Paint);
-    let latex = behind(&*words, style, version, Part::Font);
-    let chars = behind(&*words, latex, version, Part::Latex);
-    behind(&*words, chars, version, Part::Chars)
+    let start = row.start();
+    let style = row.behind(start, Part::Paint);
+    let latex = row.behind(style, Part::Font);
+    let chars = row.behind(latex, Part::Latex);
+    row.behind(chars, Part::Chars)
 }
 
-pub fn outline_place(contents: &[u32], words: &[u32], row: usize, version: u32) -> usize
-    requires { HasRow contents.now words.now version row }
-    ensures { OutlineOf contents.now words.now version row result }
+pub fn outline_place(row: &Row) -> usize
+    ensures { OutlineOf row.now.contents.now row.now.words.now row.now.version row.now.row result }
 {
-    let start = start_in(&*contents, row);
-    if kind_in(&*contents, row) == TEXT_PATH_KIND {
-        return in_text_path(&*words, start, version);
+    if row.kind() == TEXT_PATH_KIND {
+        return in_text_path(row);
     }
-    in_path(&*words, start, version)
+    in_path(row)
 }

@@ -3,27 +3,10 @@ ghost use Rattle.std.specs.Prelude.{◌≡◌, not, ◌+◌, ◌*◌, ◌<◌, �
 ghost use Rattle.std.specs.Float.{binary64};
 ghost use Rattle.std.specs.Float.Ieee.{nan_bits};
 ghost use Rattle.drawing.specs.Extent as E;
-ghost use Rattle.drawing.specs.Computed.{extent_value};
-ghost use Rattle.extent.specs.Points.{bits_at, point_at, points_at, nan_at, folded};
+ghost use Rattle.extent.specs.Points.{bits_at, point_at, points_at, nan_at, folded, box_answer};
 
-use drawing::numbers::{ACCEPTED, NOT_A_NUMBER};
-use drawing::{Extent, ExtentAnswer};
+use drawing::Extent;
 use format::halves::from_halves;
-
-// A refusal has a box of positive zeros.
-pub fn refused(number: u32) -> ExtentAnswer
-    ensures { result ≡ extent_value (E.no_extent number) }
-{
-    ExtentAnswer {
-        number: number,
-        extent: Extent {
-            left: 0.0,
-            bottom: 0.0,
-            right: 0.0,
-            top: 0.0,
-        },
-    }
-}
 
 // A NaN's bits are, but for the sign, above those of an infinity.
 fn is_nan(bits: u64) -> bool
@@ -44,10 +27,7 @@ pub fn nan_at(words: &[u32], at: usize) -> bool
     requires { at + 4 ≤ length words.now }
     ensures { result ≡ nan_at words.now at }
 {
-    if is_nan(bits_at(&*words, at)) {
-        return true;
-    }
-    is_nan(bits_at(&*words, at + 2))
+    is_nan(bits_at(words, at)) || is_nan(bits_at(words, at + 2))
 }
 
 // No float is made of a NaN's bits.
@@ -55,7 +35,7 @@ fn coordinate(words: &[u32], at: usize) -> f64
     requires { (at + 1 < length words.now) × T (not (nan_bits binary64 (bits_at words.now at))) }
     ensures { result ≡ E.coordinate (bits_at words.now at) }
 {
-    f64::from_bits(bits_at(&*words, at))
+    f64::from_bits(bits_at(words, at))
 }
 
 // The box that begins at a point.
@@ -63,8 +43,8 @@ pub fn box_at(words: &[u32], at: usize) -> Extent
     requires { (at + 4 ≤ length words.now) × T (not (nan_at words.now at)) }
     ensures { result ≡ E.box_at (point_at words.now at) }
 {
-    let x = coordinate(&*words, at);
-    let y = coordinate(&*words, at + 2);
+    let x = coordinate(words, at);
+    let y = coordinate(words, at + 2);
     Extent {
         left: x,
         bottom: y,
@@ -96,8 +76,8 @@ fn widened(extent: Extent, words: &[u32], at: usize) -> Extent
     requires { (at + 4 ≤ length words.now) × T (not (nan_at words.now at)) }
     ensures { result ≡ E.widened extent (point_at words.now at) }
 {
-    let x = coordinate(&*words, at);
-    let y = coordinate(&*words, at + 2);
+    let x = coordinate(words, at);
+    let y = coordinate(words, at + 2);
     Extent {
         left: lesser(extent.left, x),
         bottom: lesser(extent.bottom, y),
@@ -106,24 +86,18 @@ fn widened(extent: Extent, words: &[u32], at: usize) -> Extent
     }
 }
 
-// So many points from here widen the box, unless one has a NaN.
-pub fn widened_by(extent: Extent, words: &[u32], from: usize, points: usize) -> ExtentAnswer
+// So many points from here widen the box; no box if one has a NaN.
+pub fn widened_by(extent: Extent, words: &[u32], from: usize, points: usize) -> Option<Extent>
     requires { from + 4 * points ≤ length words.now }
-    ensures { result ≡ folded extent (points_at words.now from points) }
+    ensures { box_answer result ≡ folded extent (points_at words.now from points) }
 {
     let mut kept = extent;
-    let mut at = from;
-    let mut left = points;
-    while 0 < left {
-        if nan_at(&*words, at) {
-            return refused(NOT_A_NUMBER);
+    for i in 0..points {
+        let at = from + 4 * i;
+        if nan_at(words, at) {
+            return None;
         }
-        kept = widened(kept, &*words, at);
-        at = at + 4;
-        left = left - 1;
+        kept = widened(kept, words, at);
     }
-    ExtentAnswer {
-        number: ACCEPTED,
-        extent: kept,
-    }
+    Some(kept)
 }

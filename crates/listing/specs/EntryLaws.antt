@@ -36,6 +36,11 @@ pub not_entered : {labelled : Bool} {count row : ℕ} {list : List ℕ} → labe
 not_entered {labelled = false} is = record { written = nothing_written; count_is = omega arith }
 not_entered {labelled = true} is = absurd (true≢false is)
 
+-- The same of a row that is seen as a row of this table.
+pub labels-as : {c c' bs bs' label : List ℕ} {v v' r r' : ℕ} {t : Bool} → c ≡ c' → bs ≡ bs' → v ≡ v' → r ≡ r' → Labels c bs v r label t → Labels c' bs' v' r' label t
+labels-as {c} {c'} {bs} {bs'} {label} {v} {v'} {r} {r'} {t} c-is bs-is v-is r-is labels =
+    subst (λ x. Labels x bs' v' r' label t) c-is (subst (λ x. Labels c x v' r' label t) bs-is (subst (λ x. Labels c bs x r' label t) v-is (subst (λ x. Labels c bs v x label t) r-is labels)))
+
 -- ---- a table
 
 -- No two drawings share a table.

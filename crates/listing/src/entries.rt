@@ -2,9 +2,10 @@
 ghost use Rattle.std.specs.Prelude.{◌≡◌, [], ◌∷◌, ◌^◌, ◌<◌};
 ghost use Rattle.format.specs.Pass.{put};
 ghost use Rattle.places.specs.Rows.{TableHere};
-ghost use Rattle.listing.specs.Entries.{Entered, Enters};
+ghost use Rattle.listing.specs.Entries.{Enters};
 
 use crate::label::is_labelled;
+use places::row::row_of;
 
 fn store_entry(room: &mut [u32], place: usize, row: usize)
     requires { row < 2 ^ 32 }
@@ -13,18 +14,6 @@ fn store_entry(room: &mut [u32], place: usize, row: usize)
     if place < room.len() {
         room[place] = row as u32;
     }
-}
-
-// One row more, if it has the label.
-fn enter(room: &mut [u32], count: usize, row: usize, labelled: bool) -> usize
-    requires { (row < 2 ^ 32) × (count < 2 ^ 40) }
-    ensures { Entered labelled count row room.old room.new result }
-{
-    if labelled {
-        store_entry(room, count, row);
-        return count + 1;
-    }
-    count
 }
 
 pub fn entries(
@@ -38,12 +27,12 @@ pub fn entries(
     requires { TableHere contents.now words.now rows version }
     ensures { Enters contents.now words.now label.now room.old room.new result }
 {
-    let mut row = 0;
     let mut count = 0;
-    while row < rows {
-        let labelled = is_labelled(&*contents, &*words, row, version, &*label);
-        count = enter(room, count, row, labelled);
-        row = row + 1;
+    for row in 0..rows {
+        if is_labelled(&row_of(contents, words, version, row), label) {
+            store_entry(room, count, row);
+            count += 1;
+        }
     }
     count
 }

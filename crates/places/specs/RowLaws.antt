@@ -1,11 +1,13 @@
 -- The rows of a table that was checked.
-use Rattle.std.specs.Prelude.{◌≡◌, refl, ℕ, ◌*◌, ◌<◌, ◌≤◌, List, length, get_or}
+use Rattle.std.specs.Prelude.{◌≡◌, refl, ℕ, ◌+◌, ◌*◌, ◌<◌, ◌≤◌, List, length, get_or}
 use Rattle.std.proofs.Common.{sym, ap, subst, ◌∙◌, arith}
+use Rattle.std.proofs.Math.Logic.{∥∥₁_elim}
 use Rattle.std.proofs.Math.Option.{Option, none, some}
+use Rattle.std.specs.Coded.{le_prop}
 use Rattle.drawing.specs.declared.Answer.{Answer}
 use Rattle.drawing.specs.Limits.{length_limit}
 use Rattle.drawing.specs.Drawing.{Drawing, outer}
-use Rattle.drawing.specs.Table.{head_words}
+use Rattle.drawing.specs.Table.{head_words, row_width, start_in}
 use Rattle.drawing.specs.TableDrawing.{drawing_of_table}
 use Rattle.drawing.specs.Order.{objects_of}
 use Rattle.drawing.specs.Answers.{rows_of}
@@ -50,3 +52,13 @@ module _ {c bs : List ℕ} {rows version : ℕ} (table : TableHere c bs rows ver
           row_inside = omega (arith, long, inside);
           short = limits.1;
         }
+
+-- ---- a row of some object
+
+module _ {c bs : List ℕ} {v r : ℕ} (stands : ∥ HasRow c bs v r ∥₁) where
+  pub row_short : length bs ≤ length_limit
+  row_short = ∥∥₁_elim stands le_prop (λ has. has.short)
+
+  -- The words of its body are there.
+  pub body-inside : start_in c r + get_or c (row_width * r + 3) 0 ≤ length bs
+  body-inside = ∥∥₁_elim stands le_prop (λ has. omega (arith, has.body.inside, has.body.size_is))

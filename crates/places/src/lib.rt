@@ -2,7 +2,7 @@
 #![tactic(auto)]
 
 pub mod behind;
-pub mod end;
+pub mod row;
 
 // A part of a body that is passed to find what stands behind it.
 #[derive(Clone, Copy)]

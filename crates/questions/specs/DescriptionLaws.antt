@@ -5,7 +5,7 @@ use Rattle.std.proofs.lemmas.Bool.{lt-leb}
 use Rattle.drawing.specs.declared.Span.{Span}
 use Rattle.drawing.specs.declared.DescriptionAnswer.{DescriptionAnswer}
 use Rattle.drawing.specs.Object.{Object}
-use Rattle.drawing.specs.Table.{start_in, end_in}
+use Rattle.drawing.specs.Table.{end_in}
 use Rattle.drawing.specs.Order.{description_of}
 use Rattle.drawing.specs.Questions.{part, span, no_span, no_description, description_place}
 use Rattle.laws.specs.RowBodies.{RowBody}

@@ -1,4 +1,5 @@
 -- What a question about a paint, a text or a description answers.
+pub mod Asking
 pub mod RowQuestions
 pub mod PaintQuestion
 pub mod PaintLaws

@@ -1,19 +1,37 @@
 -- How the paint question is answered, and how the paint that stands at a place is read.
-use Rattle.std.specs.Prelude.{◌≡◌, cond, not, ℕ, ◌+◌, ◌<◌, List, [], ◌∷◌, length, get_or, T, eqb}
+use Rattle.std.specs.Prelude.{◌≡◌, cond, not, ℕ, ◌+◌, ◌<◌, List, [], ◌∷◌, length, get_or, T, eqb, Result, Ok, Err}
 use Prim.Native.Char.{code}
 use Rattle.std.specs.Float.{binary32}
 use Rattle.std.specs.Float.Ieee.{nan_bits}
+use Rattle.std.proofs.Math.Option.{none, some}
 use Rattle.drawing.specs.declared.PaintAnswer.{PaintAnswer}
+use Rattle.drawing.specs.declared.PaintAnswer.TheVariants.{Refused}
 use Rattle.drawing.specs.declared.Which.{Which}
 use Rattle.drawing.specs.Paint as P
 use Rattle.drawing.specs.Object.{Object}
-use Rattle.drawing.specs.Questions.{part, or_refusal, paint_value, paint_part}
+use Rattle.drawing.specs.Questions.{part, paint_value, paint_part}
 use Rattle.laws.specs.RowBodies.{RowBody}
 use Rattle.laws.specs.Standing.{Here}
+use Rattle.questions.specs.declared.asked.Refusal.{Refusal}
+use Rattle.questions.specs.Asking.{number_of}
 
--- The answer for the object of a row, in a table of this version.
-abbrev pub PaintOf : (contents bodies : List ℕ) → (version row : ℕ) → Which → PaintAnswer → Type 0
-PaintOf c bs v row which r = (o : Object) → RowBody c bs v row o → r ≡ paint_value (or_refusal 7 (paint_part which o))
+-- The answer with what was found: the paint, or a refusal.
+abbrev pub paint_found : Result PaintAnswer Refusal → PaintAnswer
+paint_found (Ok p) = p
+paint_found (Err e) = Refused (number_of e)
+
+-- An object has the paint that stands at this place.
+pub record Painted (bodies : List ℕ) (v : ℕ) (which : Which) (o : Object) (at : ℕ) : Type 0 where
+  pub paint : P.Paint
+  pub here : Here (P.paint v) bodies at paint
+  pub part-is : paint_part which o ≡ some paint
+
+-- The object of a row has it here, or has no such paint.
+abbrev pub PaintedAt : (contents bodies : List ℕ) → (v r : ℕ) → Which → ℕ → Type 0
+PaintedAt c bs v r which at = (o : Object) → RowBody c bs v r o → Painted bs v which o at
+
+abbrev pub Unpainted : (contents bodies : List ℕ) → (v r : ℕ) → Which → Type 0
+Unpainted c bs v r which = (o : Object) → RowBody c bs v r o → paint_part which o ≡ none
 
 -- The answer for the paint that stands here.
 abbrev pub PaintRead : (bodies : List ℕ) → (version at : ℕ) → PaintAnswer → Type 0

@@ -1,7 +1,7 @@
 -- The paints of a row's object.
 use Rattle.std.specs.Prelude.{◌≡◌, refl, true, false, ℕ, ◌≤◌, List, length}
 use Rattle.std.proofs.Common.{sym, ap, subst, ◌∙◌, arith}
-use Rattle.std.proofs.Math.Option.{none, some, map}
+use Rattle.std.proofs.Math.Option.{none, map}
 use Rattle.format.specs.Layout.{◌&◌}
 use Rattle.drawing.specs.declared.PaintAnswer.{PaintAnswer}
 use Rattle.drawing.specs.declared.PaintAnswer.TheVariants.{Refused}
@@ -22,18 +22,12 @@ use Rattle.laws.specs.Standing.{Here, Behind}
 use Rattle.laws.specs.StandingLaws.{here-first, here_next}
 use Rattle.laws.specs.LeafPlaceLaws.{path-here}
 use Rattle.questions.specs.declared.text_places.TextPlaces.{TextPlaces}
-use Rattle.questions.specs.PaintQuestion.{PaintRead}
+use Rattle.questions.specs.PaintQuestion.{PaintRead, Painted}
 use Rattle.questions.specs.TextQuestion.{has_text, TextPlacesOf}
 use Rattle.questions.specs.TextLaws.{of-wording, no_wording}
 
 module _ (c bs : List ℕ) (v r : ℕ) where
-  -- An object has the paint that stands at this place.
-  pub record Painted (which : Which) (o : Object) (at : ℕ) : Type 0 where
-    pub paint : P.Paint
-    pub here : Here (P.paint v) bs at paint
-    pub part-is : paint_part which o ≡ some paint
-
-  pub painted_holds : {which : Which} {o : Object} {at : ℕ} → length bs ≤ length_limit → Painted which o at → Holds (P.paint v) bs at
+  pub painted_holds : {which : Which} {o : Object} {at : ℕ} → length bs ≤ length_limit → Painted bs v which o at → Holds (P.paint v) bs at
   painted_holds short painted = record { short = short; value = painted.paint; here = painted.here }
 
   -- ---- paths
@@ -54,22 +48,22 @@ module _ (c bs : List ℕ) (v r : ℕ) where
 
   -- Where the start is that of the row.
   module _ {start : ℕ} (start_is : start ≡ start_in c r) where
-    pub line_painted : (o : Object) → RowBody c bs v r o → kind_in c r ≡ 2 → Painted Line o start
+    pub line_painted : (o : Object) → RowBody c bs v r o → kind_in c r ≡ 2 → Painted bs v Line o start
     line_painted =
-        of-path (λ o. Painted Line o start)
+        of-path (λ o. Painted bs v Line o start)
         (λ p d row. record { paint = p.line_paint; here = here-first (P.paint v) (P.paint v & line_style v & outline v) (paints-here start_is p d row); part-is = refl })
 
-    pub fill_painted : {fill : ℕ} → Behind (P.paint v) bs start fill → (o : Object) → RowBody c bs v r o → kind_in c r ≡ 2 → Painted Fill o fill
+    pub fill_painted : {fill : ℕ} → Behind (P.paint v) bs start fill → (o : Object) → RowBody c bs v r o → kind_in c r ≡ 2 → Painted bs v Fill o fill
     fill_painted {fill} is =
-        of-path (λ o. Painted Fill o fill)
+        of-path (λ o. Painted bs v Fill o fill)
         (λ p d row.
         record { paint = p.fill_paint; here = here-first (P.paint v) (line_style v & outline v) (here_next (P.paint v) (P.paint v & line_style v & outline v) (paints-here start_is p d row) is); part-is = refl })
 
   -- ---- texts
 
-  pub text-painted : {p : TextPlaces} → TextPlacesOf c bs v r p → (o : Object) → RowBody c bs v r o → has_text (kind_in c r) ≡ true → Painted Text o p.paint
+  pub text-painted : {p : TextPlaces} → TextPlacesOf c bs v r p → (o : Object) → RowBody c bs v r o → has_text (kind_in c r) ≡ true → Painted bs v Text o p.paint
   text-painted {p} are =
-      of-wording c bs v r (λ o. Painted Text o p.paint)
+      of-wording c bs v r (λ o. Painted bs v Text o p.paint)
       (λ l t d has row. record { paint = t.paint; here = (are l t d has row).paint; part-is = ap (map (λ (u : T.Text). u.paint)) has })
 
   -- ---- the answers
@@ -85,11 +79,9 @@ module _ (c bs : List ℕ) (v r : ℕ) where
   pub no_text_lem : (o : Object) → RowBody c bs v r o → has_text (kind_in c r) ≡ false → paint_part Text o ≡ none
   no_text_lem o row kind = ap (map (λ (u : T.Text). u.paint)) (no_wording c bs v r o row kind)
 
-  module _ {which which' : Which} (o : Object) (same : which ≡ which') where
-    pub no_paint : paint_part which' o ≡ none → Refused 7 ≡ paint_value (or_refusal 7 (paint_part which o))
-    no_paint lacks = sym (ap (λ w. paint_value (or_refusal 7 (paint_part w o))) same ∙ ap (λ x. paint_value (or_refusal 7 x)) lacks)
+  pub paint-answered : {which : Which} {o : Object} {at : ℕ} {r : PaintAnswer} → Painted bs v which o at → PaintRead bs v at r → r ≡ paint_value (or_refusal 7 (paint_part which o))
+  paint-answered painted reads = reads painted.paint painted.here ∙ sym (ap (λ x. paint_value (or_refusal 7 x)) painted.part-is)
 
-    pub paint-answered : {at : ℕ} {r : PaintAnswer} → Painted which' o at → PaintRead bs v at r → r ≡ paint_value (or_refusal 7 (paint_part which o))
-    paint-answered painted reads =
-        reads painted.paint painted.here
-        ∙ sym (ap (λ w. paint_value (or_refusal 7 (paint_part w o))) same ∙ ap (λ x. paint_value (or_refusal 7 x)) painted.part-is)
+-- An object without the paint.
+pub no_paint : (which : Which) (o : Object) → paint_part which o ≡ none → Refused 7 ≡ paint_value (or_refusal 7 (paint_part which o))
+no_paint which o lacks = sym (ap (λ x. paint_value (or_refusal 7 x)) lacks)

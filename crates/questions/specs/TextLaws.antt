@@ -1,5 +1,5 @@
 -- Where the fields of a row's text stand, and the chars of its strings.
-use Rattle.std.specs.Prelude.{◌≡◌, refl, true, false, ℕ, ◌+◌, ◌-◌, ◌<◌, ◌≤◌, List, [], length, get_or}
+use Rattle.std.specs.Prelude.{◌≡◌, refl, true, false, ℕ, ◌+◌, ◌<◌, ◌≤◌, List, [], length, get_or}
 use Rattle.std.proofs.Common.{sym, ap, ap₂, subst, ◌∙◌, true≢false, arith, length-append}
 use Rattle.std.proofs.Math.Option.{Option, none, some, map}
 use Rattle.format.specs.Layout.{◌&◌}

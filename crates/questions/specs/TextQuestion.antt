@@ -1,5 +1,5 @@
 -- How the text question is answered, and how the strings that stand at places are read.
-use Rattle.std.specs.Prelude.{◌≡◌, Bool, ◌||◌, ℕ, ◌+◌, List, eqb, length}
+use Rattle.std.specs.Prelude.{◌≡◌, Bool, ◌||◌, ℕ, ◌+◌, List, eqb, length, Result, Ok, Err}
 use Rattle.std.proofs.Math.Option.{Option, none, some}
 use Rattle.format.specs.Layout.{◌&◌}
 use Rattle.questions.specs.declared.text_places.TextPlaces.{TextPlaces}
@@ -11,18 +11,20 @@ use Rattle.drawing.specs.Paint as P
 use Rattle.drawing.specs.Path.{outline}
 use Rattle.drawing.specs.Text as T
 use Rattle.drawing.specs.TextPath.{TextPath}
-use Rattle.drawing.specs.Object.{Object, Leaf, leaf}
+use Rattle.drawing.specs.Object.{Leaf, leaf}
 use Rattle.drawing.specs.Table.{text_kind, text_path_kind, words_of, start_in}
-use Rattle.drawing.specs.Questions.{or_refusal, span, no_span, wording, before_style, before_text, text_part, text_places}
+use Rattle.drawing.specs.Questions.{span, no_span, no_text, wording, before_style, before_text}
 use Rattle.drawing.specs.Computed.{text_value}
 use Rattle.laws.specs.RowBodies.{RowBody}
 use Rattle.laws.specs.Standing.{Here}
 use Rattle.laws.specs.TextPlaceLaws.{latex_front, latex_parts}
+use Rattle.questions.specs.declared.asked.Refusal.{Refusal}
+use Rattle.questions.specs.Asking.{number_of}
 
--- The answer for the object of a row, in a table of this version.
-abbrev pub TextOf : (contents bodies : List ℕ) → (version row : ℕ) → TextAnswer → Type 0
-TextOf c bs v row r =
-    (o : Object) → RowBody c bs v row o → r ≡ text_value (text_places (start_in c row) v (or_refusal 7 (text_part v o)))
+-- The answer with what was found: the places of the alternative and of the text, or a refusal.
+abbrev pub text_found : Result (Span × Span) Refusal → TextAnswer
+text_found (Ok t) = record { number = 0; alternative = t.0; text = t.1 }
+text_found (Err e) = text_value (no_text (number_of e))
 
 -- The kinds of objects that have a text.
 abbrev pub has_text : ℕ → Bool

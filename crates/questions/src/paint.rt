@@ -1,59 +1,47 @@
 // The paint question.
+ghost use Rattle.std.specs.Prelude.{◌≡◌, MatchOption};
 ghost use Rattle.promises.specs.Promises.{Paints};
-ghost use Rattle.places.specs.Rows.{HasRow};
-ghost use Rattle.questions.specs.PaintQuestion.{PaintOf};
+ghost use Rattle.drawing.specs.Computed.{paint_answer};
+ghost use Rattle.questions.specs.PaintQuestion.{paint_found, Unpainted, PaintedAt};
 
+use crate::asked::{Refusal, asked};
 use crate::paint_words::paint_at;
 use crate::text_places::{has_text, text_places};
-use drawing::numbers::{ACCEPTED, NO_PART, NO_ROW, NO_TABLE};
 use drawing::row::PATH_KIND;
 use drawing::{PaintAnswer, Which};
 use places::Part;
-use places::behind::behind;
-use rows::look::{kind_in, start_in};
-use table::answers::check;
+use places::row::Row;
 
-// A path begins with its line paint, and its fill paint stands behind that.
-fn paint_of(contents: &[u32], words: &[u32], row: usize, version: u32, which: Which) -> PaintAnswer
-    requires { HasRow contents.now words.now version row }
-    ensures { PaintOf contents.now words.now version row which result }
+// Where this paint stands, if the object has one. A path begins with its line paint, and its fill paint stands behind that.
+fn paint_place(row: &Row, which: Which) -> Option<usize>
+    ensures { MatchOption result
+        (Unpainted row.now.contents.now row.now.words.now row.now.version row.now.row which)
+        (PaintedAt row.now.contents.now row.now.words.now row.now.version row.now.row which) }
 {
-    let kind = kind_in(&*contents, row);
-    let start = start_in(&*contents, row);
+    let kind = row.kind();
     match which {
-        Which::Line => {
-            if kind != PATH_KIND {
-                return PaintAnswer::Refused(NO_PART);
-            }
-            return paint_at(&*words, start, version);
-        }
-        Which::Fill => {
-            if kind != PATH_KIND {
-                return PaintAnswer::Refused(NO_PART);
-            }
-            let fill = behind(&*words, start, version, Part::Paint);
-            return paint_at(&*words, fill, version);
-        }
-        Which::Text => {
-            if has_text(kind) {
-                let places = text_places(&*contents, &*words, row, version);
-                return paint_at(&*words, places.paint, version);
-            }
-            return PaintAnswer::Refused(NO_PART);
-        }
+        Which::Line if kind == PATH_KIND => Some(row.start()),
+        Which::Fill if kind == PATH_KIND => Some(row.behind(row.start(), Part::Paint)),
+        Which::Text if has_text(kind) => Some(text_places(row).paint),
+        _ => None,
     }
+}
+
+fn paint_of(contents: &[u32], words: &[u32], row: u32, which: Which) -> Result<PaintAnswer, Refusal>
+    ensures { paint_found result ≡ paint_answer contents.now words.now row which }
+{
+    let row = asked(contents, words, row)?;
+    let Some(at) = paint_place(&row, which) else {
+        return Err(Refusal::NoPart);
+    };
+    Ok(paint_at(row.words, at, row.version))
 }
 
 pub fn paint(contents: &[u32], words: &[u32], row: u32, which: Which) -> PaintAnswer
     ensures { Paints contents.now words.now row which result }
 {
-    let checked = check(&*contents, &*words);
-    if checked.number != ACCEPTED {
-        return PaintAnswer::Refused(NO_TABLE);
+    match paint_of(contents, words, row, which) {
+        Ok(paint) => paint,
+        Err(refusal) => PaintAnswer::Refused(refusal.number()),
     }
-    if checked.rows <= row {
-        return PaintAnswer::Refused(NO_ROW);
-    }
-    let version = words[0];
-    paint_of(&*contents, &*words, row as usize, version, which)
 }

@@ -1,38 +1,24 @@
 // The text question.
 ghost use Rattle.std.specs.Prelude.{◌≡◌, ◌<◌, ◌≤◌, length};
 ghost use Rattle.promises.specs.Promises.{Texts};
-ghost use Rattle.drawing.specs.Questions.{no_text};
-ghost use Rattle.drawing.specs.Computed.{text_value};
+ghost use Rattle.drawing.specs.Computed.{text_answer};
 ghost use Rattle.drawing.specs.Limits.{length_limit};
 ghost use Rattle.drawing.specs.Choices.{if_flag};
 ghost use Rattle.drawing.specs.Text as T;
-ghost use Rattle.places.specs.Rows.{HasRow};
 ghost use Rattle.places.specs.Places.{Holds};
-ghost use Rattle.questions.specs.TextQuestion.{CharsRead, AlternativeRead, TextOf};
+ghost use Rattle.questions.specs.TextQuestion.{CharsRead, AlternativeRead, text_found};
 
+use crate::asked::{Refusal, asked};
 use crate::text_places::{has_text, text_places};
-use drawing::numbers::{ACCEPTED, NO_PART, NO_ROW, NO_TABLE};
+use drawing::numbers::ACCEPTED;
 use drawing::{Span, TextAnswer};
 use places::Part;
 use places::behind::behind;
-use rows::look::kind_in;
-use table::answers::check;
 
-fn refused(number: u32) -> TextAnswer
-    ensures { result ≡ text_value (no_text number) }
-{
-    TextAnswer {
-        number: number,
-        alternative: Span {
-            start: 0,
-            length: 0,
-        },
-        text: Span {
-            start: 0,
-            length: 0,
-        },
-    }
-}
+pub const NO_CHARS: Span = Span {
+    start: 0,
+    length: 0,
+};
 
 // The chars of the string that stands here, behind their number.
 pub fn chars_at(words: &[u32], at: usize) -> Span
@@ -51,40 +37,38 @@ fn alternative_chars(words: &[u32], at: usize, version: u32) -> Span
     ensures { AlternativeRead words.now at result }
 {
     if words[at] == 1 {
-        let alternative = behind(&*words, at + 1, version, Part::BeforeAlternative);
-        return chars_at(&*words, alternative);
+        let alternative = behind(words, at + 1, version, Part::BeforeAlternative);
+        return chars_at(words, alternative);
     }
-    Span {
-        start: 0,
-        length: 0,
-    }
+    NO_CHARS
 }
 
-fn text_of(contents: &[u32], words: &[u32], row: usize, version: u32) -> TextAnswer
-    requires { HasRow contents.now words.now version row }
-    ensures { TextOf contents.now words.now version row result }
+// The chars of the alternative, and those of the text.
+fn text_of(contents: &[u32], words: &[u32], row: u32) -> Result<(Span, Span), Refusal>
+    ensures { text_found result ≡ text_answer contents.now words.now row }
 {
-    if has_text(kind_in(&*contents, row)) {
-        let places = text_places(&*contents, &*words, row, version);
-        return TextAnswer {
-            number: ACCEPTED,
-            alternative: alternative_chars(&*words, places.latex, version),
-            text: chars_at(&*words, places.chars),
-        };
+    let row = asked(contents, words, row)?;
+    if has_text(row.kind()) {
+        let places = text_places(&row);
+        let alternative = alternative_chars(row.words, places.latex, row.version);
+        return Ok((alternative, chars_at(row.words, places.chars)));
     }
-    refused(NO_PART)
+    Err(Refusal::NoPart)
 }
 
 pub fn text(contents: &[u32], words: &[u32], row: u32) -> TextAnswer
     ensures { Texts contents.now words.now row result }
 {
-    let checked = check(&*contents, &*words);
-    if checked.number != ACCEPTED {
-        return refused(NO_TABLE);
+    match text_of(contents, words, row) {
+        Ok((alternative, text)) => TextAnswer {
+            number: ACCEPTED,
+            alternative,
+            text,
+        },
+        Err(refusal) => TextAnswer {
+            number: refusal.number(),
+            alternative: NO_CHARS,
+            text: NO_CHARS,
+        },
     }
-    if checked.rows <= row {
-        return refused(NO_ROW);
-    }
-    let version = words[0];
-    text_of(&*contents, &*words, row as usize, version)
 }

@@ -1,13 +1,11 @@
 // Where the parts of a text stand, its own or that of a text along a path.
-ghost use Rattle.std.specs.Prelude.{◌≡◌, ◌≤◌, length};
-ghost use Rattle.drawing.specs.Limits.{length_limit};
-ghost use Rattle.places.specs.Rows.{HasRow};
+ghost use Rattle.std.specs.Prelude.{◌≡◌};
+ghost use Rattle.drawing.specs.Table.{start_in};
 ghost use Rattle.questions.specs.TextQuestion.{has_text, InText, InTextPath, TextPlacesOf};
 
 use drawing::row::{TEXT_KIND, TEXT_PATH_KIND};
 use places::Part;
-use places::behind::behind;
-use rows::look::{kind_in, start_in};
+use places::row::Row;
 
 #[derive(Clone, Copy)]
 pub struct TextPlaces {
@@ -22,49 +20,44 @@ pub struct TextPlaces {
 pub fn has_text(kind: u32) -> bool
     ensures { result ≡ has_text kind }
 {
-    if kind == TEXT_KIND {
-        return true;
-    }
-    kind == TEXT_PATH_KIND
+    matches!(kind, TEXT_KIND | TEXT_PATH_KIND)
 }
 
 // A text begins with its font; its paint stands behind the LaTeX fields.
-fn in_text(words: &[u32], start: usize, version: u32) -> TextPlaces
-    requires { (start ≤ length words.now) × (length words.now ≤ length_limit) }
-    ensures { InText words.now version start result }
+fn in_text(row: &Row) -> TextPlaces
+    ensures { InText row.now.words.now row.now.version (start_in row.now.contents.now row.now.row) result }
 {
-    let latex = behind(&*words, start, version, Part::Font);
-    let paint = behind(&*words, latex, version, Part::Latex);
-    let chars = behind(&*words, paint, version, Part::Paint);
+    let start = row.start();
+    let latex = row.behind(start, Part::Font);
+    let paint = row.behind(latex, Part::Latex);
+    let chars = row.behind(paint, Part::Paint);
     TextPlaces {
-        paint: paint,
-        latex: latex,
-        chars: chars,
+        paint,
+        latex,
+        chars,
     }
 }
 
 // A text along a path begins with its paint.
-fn in_text_path(words: &[u32], start: usize, version: u32) -> TextPlaces
-    requires { (start ≤ length words.now) × (length words.now ≤ length_limit) }
-    ensures { InTextPath words.now version start result }
+fn in_text_path(row: &Row) -> TextPlaces
+    ensures { InTextPath row.now.words.now row.now.version (start_in row.now.contents.now row.now.row) result }
 {
-    let style = behind(&*words, start, version, Part::Paint);
-    let latex = behind(&*words, style, version, Part::Font);
-    let chars = behind(&*words, latex, version, Part::Latex);
+    let paint = row.start();
+    let style = row.behind(paint, Part::Paint);
+    let latex = row.behind(style, Part::Font);
+    let chars = row.behind(latex, Part::Latex);
     TextPlaces {
-        paint: start,
-        latex: latex,
-        chars: chars,
+        paint,
+        latex,
+        chars,
     }
 }
 
-pub fn text_places(contents: &[u32], words: &[u32], row: usize, version: u32) -> TextPlaces
-    requires { HasRow contents.now words.now version row }
-    ensures { TextPlacesOf contents.now words.now version row result }
+pub fn text_places(row: &Row) -> TextPlaces
+    ensures { TextPlacesOf row.now.contents.now row.now.words.now row.now.version row.now.row result }
 {
-    let start = start_in(&*contents, row);
-    if kind_in(&*contents, row) == TEXT_PATH_KIND {
-        return in_text_path(&*words, start, version);
+    if row.kind() == TEXT_PATH_KIND {
+        return in_text_path(row);
     }
-    in_text(&*words, start, version)
+    in_text(row)
 }

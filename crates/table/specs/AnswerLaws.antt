@@ -77,13 +77,6 @@ module _ (cs ws : List ℕ) (below : Below (2 ^ 32) ws) where
         by none is = let z : ◌≡◌ {A = ℕ} 0 16 = sym zero_is ∙ ap (λ x. x.number) (checked.says ∙ ap check_from is) in absurd (omega arith)
         by (some d) is = record { d = d; is = is; answer-is = checked.says ∙ ap check_from is }
 
-    pub write_refused : (file : List ℕ) → (a.number ≡ 0 → ⊥) → Writes cs ws file a file
-    write_refused file gone = by (drawing_of_table cs ws) refl
-      where
-        by : (o : Option Drawing) → drawing_of_table cs ws ≡ o → Writes cs ws file a file
-        by none is = writes below (ap (λ x. record { answer = x; buffer = file }) (checked.says ∙ ap check_from is) ∙ sym (ap (λ o. write_from o file) is))
-        by (some d) is = absurd (gone (ap (λ x. x.number) (checked.says ∙ ap check_from is)))
-
     module _ (zero_is : a.number ≡ 0) where
       pub within-limits : (length cs ≤ 4 * length_limit) × (length ws ≤ length_limit)
       within-limits = let here = drawn zero_is in table_limits cs ws here.d ((drawing-of_table cs ws below here.d).0 here.is)

@@ -2,3 +2,4 @@
 #![tactic(auto)]
 
 pub mod answers;
+pub mod counts;

@@ -9,7 +9,7 @@ nan_at-requires c = c.requires.0
 
 pub returns-then-nan_at : goal.returns-then-nan_at
 returns-then-nan_at c =
-    c.refused.ensures ∙ sym (boxed_nan (point_at c.args.words.now c.args.first) (segments_at c.args.words.now c.args.from c.args.own c.args.segments) (sym c.nan_at.ensures ∙ c.if-nan_at.true))
+    sym (boxed_nan (point_at c.args.words.now c.args.first) (segments_at c.args.words.now c.args.from c.args.own c.args.segments) (sym c.nan_at.ensures ∙ c.if-nan_at.true))
 
 pub box_at-requires : goal.box_at-requires
 box_at-requires c = (c.requires.0, is_number c.nan_at.ensures c.if-nan_at.false)

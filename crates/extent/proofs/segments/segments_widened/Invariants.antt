@@ -1,10 +1,7 @@
-use mathlib.Core.Path.{◌≡◌, ◌∙◌}
-use Prim.Native.Nat.{◌<◌}
+use Rattle.std.proofs.Common.{◌≡◌, ◌-◌}
 use Rattle.extent.specs.Points.{segments_at, SegmentsInside, folded}
 use Rattle.extent.proofs.segments.segments_widened.Given as goal
 
-abbrev pub invariant-loop-left : goal.invariant-loop-left
-invariant-loop-left l = (folded l.initial.kept (segments_at l.words l.initial.at l.own l.initial.left) ≡ folded l.kept (segments_at l.words l.at l.own l.left)) × SegmentsInside l.words l.at l.own l.left
-
-abbrev pub decreases-loop-left : goal.decreases-loop-left
-decreases-loop-left l = l.left
+abbrev pub invariant-loop-segment : goal.invariant-loop-segment
+invariant-loop-segment l =
+    (folded l.initial.kept (segments_at l.words l.from l.own l.segments) ≡ folded l.kept (segments_at l.words l.at l.own (l.segments - l._segment))) × SegmentsInside l.words l.at l.own (l.segments - l._segment)

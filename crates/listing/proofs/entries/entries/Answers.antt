@@ -1,33 +1,28 @@
 -- `listing::entries::entries` meets its contract.
-use Rattle.listing.specs.EntryLaws.{gather_none, gather_one, gather_all}
+use Rattle.listing.specs.Entries.{Labels, Entered}
+use Rattle.listing.specs.EntryLaws.{labels-as, gather_one, gather_all, entered, not_entered}
 use Rattle.places.specs.RowLaws.{row_here, rows-small}
 use native.Mathlib.Omega.{arith}
-use Prim.Native.Nat.{◌-◌}
 use Rattle.listing.proofs.entries.entries.Goals as goal
+use Rattle.listing.proofs.entries.entries.Goals.{then-is_labelled, else-is_labelled}
 
-pub loop-row-init : goal.loop-row-init
-loop-row-init c =
-    record { table = c.requires; gathering = gather_none c.requires c.args.label.now c.args.room.now; most = omega arith }
+pub row_of-requires : goal.row_of-requires
+row_of-requires c = row_here c.loop-row.invariant.table c.loop-row.row c.loop-row-test.true
 
-pub is_labelled-labelled-requires : goal.is_labelled-labelled-requires
-is_labelled-labelled-requires c = row_here c.loop-row.invariant.table c.loop-row.row c.loop-row-test.true
-
-pub enter-count-requires : goal.enter-count-requires
-enter-count-requires c =
-    let small = rows-small c.loop-row.invariant.table in (omega (arith, small, c.loop-row-test.true), omega (arith, small, c.loop-row-test.true, c.loop-row.invariant.gathering.few, c.loop-row.invariant.gathering.count_is))
-
-pub overflow_add-row : goal.overflow_add-row
-overflow_add-row c = let small = rows-small c.loop-row.invariant.table in omega (arith, small, c.loop-row-test.true)
-
-pub loop-row-smaller : goal.loop-row-smaller
-loop-row-smaller c = omega (arith, c.loop-row-test.true)
+pub store_entry-requires : goal.store_entry-requires
+store_entry-requires c = let small = rows-small c.loop-row.invariant.table in omega (arith, small, c.loop-row-test.true)
 
 pub loop-row-preserved : goal.loop-row-preserved
 loop-row-preserved c =
-    record { table = c.loop-row.invariant.table; gathering = gather_one c.loop-row.invariant.table c.args.label.now c.loop-row.invariant.gathering c.loop-row-test.true c.is_labelled-labelled.ensures c.enter-count.ensures; most = omega (arith, c.loop-row-test.true) }
-
-pub shape_of-room : goal.shape_of-room
-shape_of-room c = c.loop-row.invariant.gathering.written.same_length
+    let row = c.row_of.ensures in
+    let labels : Labels c.args.contents.now c.args.words.now c.args.version c.loop-row.row c.args.label.now c.is_labelled.result =
+    labels-as row.contents_are row.words_are row.version_is row.row_is c.is_labelled.ensures in
+    let one : Entered c.is_labelled.result c.loop-row.count c.loop-row.row c.loop-row.room c.if-is_labelled.room c.if-is_labelled.count =
+    elim c.if-is_labelled.branch [
+      | then-is_labelled w ↦ rw (w.room-is, w.count-is) (entered w.if-is_labelled.true w.store_entry.ensures)
+      | else-is_labelled w ↦ rw (w.room-is, w.count-is) (not_entered w.if-is_labelled.false)
+    ] in
+    record { table = c.loop-row.invariant.table; gathering = gather_one c.loop-row.invariant.table c.args.label.now c.loop-row.invariant.gathering c.loop-row-test.true labels one; most = omega (arith, c.loop-row-test.true) }
 
 pub returns : goal.returns
 returns c =

@@ -1,42 +1,26 @@
 -- `questions::paint::paint_of` meets its contract.
-use mathlib.Core.Path.{ap}
-use Rattle.questions.specs.TextQuestion.{has_text}
-use mathlib.Core.Path.{sym, ◌∙◌}
-use Rattle.questions.specs.PaintQuestionLaws.{painted_holds, line_painted, fill_painted, text-painted, no_path, no_text_lem, no_paint, paint-answered}
+use mathlib.Core.Path.{refl, sym, ◌∙◌}
+use Rattle.std.proofs.lemmas.Result.{err_from_is_err_and}
+use Rattle.drawing.specs.declared.PaintAnswer.TheVariants.{Refused}
+use Rattle.drawing.specs.Questions.{paint_part, paint_value}
+use Rattle.questions.specs.RowQuestions.{asked_part, refused_row, body-there, short-there}
+use Rattle.questions.specs.PaintQuestionLaws.{painted_holds, paint-answered}
 use Rattle.questions.proofs.paint.paint_of.Goals as goal
 
-pub returns-then-kind-ne-PATH_KIND : goal.returns-then-kind-ne-PATH_KIND
-returns-then-kind-ne-PATH_KIND c =
-    λ o row. no_paint c.args.contents.now c.args.words.now c.args.version c.args.row o c.in-Line.is (no_path c.args.contents.now c.args.words.now c.args.version c.args.row o row (λ is. c.if-kind-ne-PATH_KIND.true (c.kind_in-kind.ensures ∙ is))).0
+pub returns-in_err-row : goal.returns-in_err-row
+returns-in_err-row c =
+    let p = err_from_is_err_and c.from_residual.result c.from_residual.ensures.1 in
+    rw (p.1, p.2) (refused_row (λ d. paint_part c.args.which) (λ d. paint_value) Refused (λ d n. refl) c.args.contents.now c.args.words.now c.args.row c.in_err-row.field-0.0 c.in_err-row.ensures)
 
 pub paint_at-requires : goal.paint_at-requires
 paint_at-requires c =
-    painted_holds c.args.contents.now c.args.words.now c.args.version c.args.row c.requires.short (line_painted c.args.contents.now c.args.words.now c.args.version c.args.row c.start_in-start.ensures c.requires.object c.requires.body (sym c.kind_in-kind.ensures ∙ c.if-kind-ne-PATH_KIND.false))
+    let row = c.in_ok-row.row in
+    let it = c.in_ok-row.ensures in
+    painted_holds row.contents.now row.words.now row.version row.row (short-there it) (c.in-Some.ensures it.asked.object (body-there it))
 
-pub returns-in-Line : goal.returns-in-Line
-returns-in-Line c =
-    λ o row. paint-answered c.args.contents.now c.args.words.now c.args.version c.args.row o c.in-Line.is (line_painted c.args.contents.now c.args.words.now c.args.version c.args.row c.start_in-start.ensures o row (sym c.kind_in-kind.ensures ∙ c.if-kind-ne-PATH_KIND.false)) c.paint_at.ensures
-
-pub returns-then-kind-ne-PATH_KIND-2 : goal.returns-then-kind-ne-PATH_KIND-2
-returns-then-kind-ne-PATH_KIND-2 c =
-    λ o row. no_paint c.args.contents.now c.args.words.now c.args.version c.args.row o c.in-Fill.is (no_path c.args.contents.now c.args.words.now c.args.version c.args.row o row (λ is. c.if-kind-ne-PATH_KIND-2.true (c.kind_in-kind.ensures ∙ is))).1
-
-pub paint_at-requires-in-Fill : goal.paint_at-requires-in-Fill
-paint_at-requires-in-Fill c =
-    painted_holds c.args.contents.now c.args.words.now c.args.version c.args.row c.requires.short (fill_painted c.args.contents.now c.args.words.now c.args.version c.args.row c.start_in-start.ensures c.behind-fill.ensures.is c.requires.object c.requires.body (sym c.kind_in-kind.ensures ∙ c.if-kind-ne-PATH_KIND-2.false))
-
-pub returns-in-Fill : goal.returns-in-Fill
-returns-in-Fill c =
-    λ o row. paint-answered c.args.contents.now c.args.words.now c.args.version c.args.row o c.in-Fill.is (fill_painted c.args.contents.now c.args.words.now c.args.version c.args.row c.start_in-start.ensures c.behind-fill.ensures.is o row (sym c.kind_in-kind.ensures ∙ c.if-kind-ne-PATH_KIND-2.false)) c.paint_at-in-Fill.ensures
-
-pub paint_at-requires-then-has_text : goal.paint_at-requires-then-has_text
-paint_at-requires-then-has_text c =
-    painted_holds c.args.contents.now c.args.words.now c.args.version c.args.row c.requires.short (text-painted c.args.contents.now c.args.words.now c.args.version c.args.row c.text_places-places.ensures c.requires.object c.requires.body (ap has_text (sym c.kind_in-kind.ensures) ∙ sym c.has_text.ensures ∙ c.if-has_text.true))
-
-pub returns-then-has_text : goal.returns-then-has_text
-returns-then-has_text c =
-    λ o row. paint-answered c.args.contents.now c.args.words.now c.args.version c.args.row o c.in-Text.is (text-painted c.args.contents.now c.args.words.now c.args.version c.args.row c.text_places-places.ensures o row (ap has_text (sym c.kind_in-kind.ensures) ∙ sym c.has_text.ensures ∙ c.if-has_text.true)) c.paint_at-then-has_text.ensures
-
-pub returns-in-Text : goal.returns-in-Text
-returns-in-Text c =
-    λ o row. no_paint c.args.contents.now c.args.words.now c.args.version c.args.row o c.in-Text.is (no_text_lem c.args.contents.now c.args.words.now c.args.version c.args.row o row (ap has_text (sym c.kind_in-kind.ensures) ∙ sym c.has_text.ensures ∙ c.if-has_text.false))
+pub returns : goal.returns
+returns c =
+    let row = c.in_ok-row.row in
+    let it = c.in_ok-row.ensures in
+    paint-answered row.contents.now row.words.now row.version row.row (c.in-Some.ensures it.asked.object (body-there it)) c.paint_at.ensures
+    ∙ sym (asked_part (λ d. paint_part c.args.which) (λ d. paint_value) Refused it.asked)

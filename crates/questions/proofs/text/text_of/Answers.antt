@@ -1,52 +1,49 @@
-use mathlib.Core.Path.{sym, ap, ◌∙◌}
+-- `questions::text::text_of` meets its contract.
+use Rattle.std.specs.Prelude.{◌≡◌, ℕ, List}
+use mathlib.Core.Path.{refl, sym, ap, ◌∙◌}
+use Rattle.std.proofs.lemmas.Result.{err_from_is_err_and}
+use Rattle.drawing.specs.declared.TextAnswer.{TextAnswer}
+use Rattle.drawing.specs.Questions.{or_refusal, no_text, text_part, text_places}
+use Rattle.drawing.specs.Computed.{text_value, text_answer}
+use Rattle.drawing.specs.Table.{start_in}
+use Rattle.questions.specs.Asking.{AskedRow}
 use Rattle.questions.specs.TextQuestion.{has_text}
-use Rattle.questions.specs.TextLaws.{latex_holds, chars_inside, text-answered, no_text-answered}
-use borrow.Author.Rules.{rules}
--- src/text.rt:73:17
+use Rattle.questions.specs.TextLaws.{answered, latex_holds, chars_inside, text-answered, no_text-answered}
+use Rattle.questions.specs.RowQuestions.{asked_part, refused_row, of-row, body-there, short-there}
 use Rattle.questions.proofs.text.text_of.Goals as goal
 
-pub kind_in-requires : goal.kind_in-requires
-kind_in-requires c =
-    search rules
+-- What is answered of the row that was found is the answer of the question.
+given : {cs ws : List ℕ} {row : ℕ} {cs' ws' : List ℕ} {v r : ℕ} (it : AskedRow cs ws row cs' ws' v r) {x : TextAnswer} → x ≡ answered cs' ws' v r it.asked.object → x ≡ text_answer cs ws row
+given {cs} {ws} {row} it {x} is =
+    of-row (λ cs ws v r. x ≡ answered cs ws v r it.asked.object) it is
+    ∙ ap (λ v. text_value (text_places (start_in cs row) v (or_refusal 7 (text_part v it.asked.object)))) it.asked.version-is
+    ∙ sym (asked_part (λ d. text_part d.version) (λ d x. text_value (text_places (start_in cs row) d.version x)) (λ n. text_value (no_text n)) it.asked)
 
--- src/text.rt:73:8
+pub returns-in_err-row : goal.returns-in_err-row
+returns-in_err-row c =
+    let p = err_from_is_err_and c.from_residual.result c.from_residual.ensures.1 in
+    rw (p.1, p.2) (refused_row (λ d. text_part d.version) (λ d x. text_value (text_places (start_in c.args.contents.now c.args.row) d.version x)) (λ n. text_value (no_text n)) (λ d n. refl) c.args.contents.now c.args.words.now c.args.row c.in_err-row.field-0.0 c.in_err-row.ensures)
 
-pub has_text-requires : goal.has_text-requires
-has_text-requires c =
-    search rules
-
--- src/text.rt:74:13
-
-pub text_places-places-requires : goal.text_places-places-requires
-text_places-places-requires c =
-    search rules
-
--- src/text.rt:77:26
-
-pub alternative_chars-requires : goal.alternative_chars-requires
-alternative_chars-requires c =
-    latex_holds c.args.contents.now c.args.words.now c.args.version c.args.row c.text_places-places.ensures c.requires.object c.requires.body (ap has_text (sym c.kind_in.ensures) ∙ sym c.has_text.ensures ∙ c.if-has_text.true) c.requires.short
-
--- src/text.rt:78:19
+pub alternative_chars-alternative-requires : goal.alternative_chars-alternative-requires
+alternative_chars-alternative-requires c =
+    let row = c.in_ok-row.row in
+    let it = c.in_ok-row.ensures in
+    latex_holds row.contents.now row.words.now row.version row.row c.text_places-places.ensures it.asked.object (body-there it) (ap has_text (sym c.kind.ensures) ∙ sym c.has_text.ensures ∙ c.if-has_text.true) (short-there it)
 
 pub chars_at-requires : goal.chars_at-requires
 chars_at-requires c =
-    (chars_inside c.args.contents.now c.args.words.now c.args.version c.args.row c.text_places-places.ensures c.requires.object c.requires.body (ap has_text (sym c.kind_in.ensures) ∙ sym c.has_text.ensures ∙ c.if-has_text.true), c.requires.short)
-
--- src/text.rt:75:9
+    let row = c.in_ok-row.row in
+    let it = c.in_ok-row.ensures in
+    (chars_inside row.contents.now row.words.now row.version row.row c.text_places-places.ensures it.asked.object (body-there it) (ap has_text (sym c.kind.ensures) ∙ sym c.has_text.ensures ∙ c.if-has_text.true), short-there it)
 
 pub returns-then-has_text : goal.returns-then-has_text
 returns-then-has_text c =
-    λ o row. text-answered c.args.contents.now c.args.words.now c.args.version c.args.row c.text_places-places.ensures o row (ap has_text (sym c.kind_in.ensures) ∙ sym c.has_text.ensures ∙ c.if-has_text.true) c.alternative_chars.ensures c.chars_at.ensures
-
--- src/text.rt:81:5
-
-pub refused-requires : goal.refused-requires
-refused-requires c =
-    search rules
-
--- src/text.rt:69:1
+    let row = c.in_ok-row.row in
+    let it = c.in_ok-row.ensures in
+    given it (text-answered row.contents.now row.words.now row.version row.row c.text_places-places.ensures it.asked.object (body-there it) (ap has_text (sym c.kind.ensures) ∙ sym c.has_text.ensures ∙ c.if-has_text.true) c.alternative_chars-alternative.ensures c.chars_at.ensures)
 
 pub returns : goal.returns
 returns c =
-    λ o row. c.refused.ensures ∙ no_text-answered c.args.contents.now c.args.words.now c.args.version c.args.row o row (ap has_text (sym c.kind_in.ensures) ∙ sym c.has_text.ensures ∙ c.if-has_text.false)
+    let row = c.in_ok-row.row in
+    let it = c.in_ok-row.ensures in
+    given it (no_text-answered row.contents.now row.words.now row.version row.row it.asked.object (body-there it) (ap has_text (sym c.kind.ensures) ∙ sym c.has_text.ensures ∙ c.if-has_text.false))

@@ -1,25 +1,11 @@
+-- `questions::text_places::in_text_path` meets its contract.
+use mathlib.Core.Path.{subst}
+use Rattle.questions.specs.TextQuestion.{InTextPath}
 use Rattle.questions.specs.TextLaws.{in_text-path}
-use borrow.Author.Rules.{rules}
--- src/text_places.rt:53:9
 use Rattle.questions.proofs.text_places.in_text_path.Goals as goal
 
-pub behind-style-requires : goal.behind-style-requires
-behind-style-requires c =
-    search rules
-
--- src/text_places.rt:54:9
-
-pub behind-latex-requires : goal.behind-latex-requires
-behind-latex-requires c =
-    search rules
-
--- src/text_places.rt:55:9
-
-pub behind-chars-requires : goal.behind-chars-requires
-behind-chars-requires c =
-    search rules
-
--- src/text_places.rt:49:1
-
 pub returns : goal.returns
-returns c = in_text-path c.behind-style.ensures.is c.behind-latex.ensures.is c.behind-chars.ensures.is
+returns c =
+    let row = c.args.row.now in
+    subst (λ at. InTextPath row.words.now row.version at (record { paint = c.start-paint.result; latex = c.behind-latex.result; chars = c.behind-chars.result })) c.start-paint.ensures.is
+    (in_text-path c.behind-style.ensures.is c.behind-latex.ensures.is c.behind-chars.ensures.is)

@@ -1,7 +1,7 @@
--- `extent::points::refused` meets its contract.
+-- `extent::extent::refused` meets its contract.
 use mathlib.Core.Path.{refl}
 use lib.Ieee.{of_bits}
-use Rattle.extent.proofs.points.refused.Goals as goal
+use Rattle.extent.proofs.extent.refused.Goals as goal
 
 pub returns : goal.returns
 unfolding of_bits

@@ -1,0 +1,7 @@
+-- `places::row::Row::start` meets its contract.
+use native.Mathlib.Omega.{arith}
+use Rattle.places.specs.RowLaws.{body-inside}
+use Rattle.places.proofs.row.Row.start.Goals as goal
+
+pub returns-clause-inside : goal.returns-clause-inside
+returns-clause-inside c = omega (arith, body-inside c.args.self.now.stands, c.start_in.ensures)
