@@ -1,14 +1,12 @@
 -- A session in the middle of a piece: the bytes it stands for, those of them that are still ahead of it, and what comes of running on.
-use Rattle.std.specs.Prelude.{◌≡◌, refl, ◌⊎◌, Bool, true, false, cond, not, ℕ, zero, suc, ◌+◌, ◌-◌, ◌<◌, ◌≤◌, List, [], ◌∷◌, ◌++◌, eqb, ltb, length, drop, get_or}
-use Rattle.std.proofs.Common.{sym, ap, ◌∙◌, subst, inl, inr, true≢false, arith, append-nil, append_assoc, length-append, length-drop, lt-ltb, le-ltb, ltb-true, ltb-false, eqb-true, eq-eqb, ne_eqb}
+use Rattle.std.specs.Prelude.{◌≡◌, refl, ◌⊎◌, Bool, true, false, cond, not, ℕ, ◌+◌, ◌-◌, ◌<◌, ◌≤◌, List, [], ◌∷◌, ◌++◌, eqb, ltb, length, drop}
+use Rattle.std.proofs.Common.{sym, ap, ◌∙◌, subst, inl, inr, true≢false, arith, append-nil, append_assoc, length-append, length-drop, lt-ltb, ltb-true, ltb-false, eqb-true, eq-eqb, ne_eqb}
 use Rattle.std.proofs.lemmas.Bool.{false≢true}
-use Rattle.std.proofs.Math.Nat as Nat
 use Rattle.format.specs.Digits.{Below}
 use Rattle.format.specs.Codec.{Outcome, found}
 use Rattle.format.specs.Codec as C
 use Rattle.format.specs.Script.{Script, end}
 use Rattle.format.specs.FixedCodecLaws.{below_append}
-use Rattle.drawing.specs.declared.Answer.{Answer}
 use Rattle.drawing.specs.Limits.{length_limit, depth_limit}
 use Rattle.drawing.specs.Drawing.{file}
 use Rattle.drawing.specs.Answers.{answer}
@@ -17,17 +15,16 @@ use Rattle.pieces.specs.Tally.{plus, tallied}
 use Rattle.pieces.specs.TallyLaws.{plus-plus}
 use Rattle.pieces.specs.Going.{room, Stops}
 use Rattle.pieces.specs.Held.{first_of}
-use Rattle.pieces.specs.Parts.{Standing, groups, head_on, rest_at, rest}
+use Rattle.pieces.specs.Parts.{groups, head_on, rest_at, rest}
 use Rattle.pieces.specs.EntryLaws.{none_inside, rest-around, rest_agree}
 use Rattle.pieces.specs.Verdict.{verdict_of, comes}
 use Rattle.pieces.specs.VerdictLaws.{verdict-tallied, refused-verdict}
-use Rattle.pieces.specs.Session.{standing, held_bytes, verdict_now, Going, Faulty, Within}
+use Rattle.pieces.specs.Session.{standing, verdict_now, Within}
 use Rattle.session.specs.Changes.{with_held, stop}
 use Rattle.session_run.specs.declared.place.Place.{Place}
 use Rattle.session_run.specs.declared.run.Ran.{Ran}
 use Rattle.session_run.specs.declared.advance.Fed.{Fed}
 use Rattle.session_run.specs.Objects.{standing_of, Sound, Over}
-use Rattle.session_run.specs.Running.{Came, Runs}
 use Rattle.session_run.specs.Advancing.{place_of, after_run, Tame, Advances}
 
 -- ---- what is promised

@@ -1,5 +1,5 @@
 -- A piece given to a session: which sessions are run over it, and what they stand for then.
-use Rattle.std.specs.Prelude.{◌≡◌, refl, ◌⊎◌, Bool, true, false, cond, ◌||◌, ℕ, suc, ◌+◌, ◌-◌, ◌<◌, ◌≤◌, List, [], ◌∷◌, ◌++◌, eqb, leb, ltb, length}
+use Rattle.std.specs.Prelude.{◌≡◌, refl, ◌⊎◌, Bool, true, false, cond, ◌||◌, ℕ, suc, ◌+◌, ◌-◌, ◌<◌, ◌≤◌, List, ◌++◌, leb, ltb, length}
 use Rattle.std.proofs.Common.{sym, ap, ◌∙◌, subst, inl, inr, true≢false, arith, append_assoc, length-append, ltb-true, ltb-false, leb-true, leb-false, ne_eqb}
 use Rattle.std.proofs.lemmas.Bool.{false≢true}
 use Rattle.format.specs.Digits.{Below}
@@ -13,11 +13,11 @@ use Rattle.pieces.specs.Tally.{plus, tallied}
 use Rattle.pieces.specs.Going.{room}
 use Rattle.pieces.specs.Parts.{head_on, rest}
 use Rattle.pieces.specs.Verdict.{verdict_of}
-use Rattle.pieces.specs.Session.{standing, held_bytes, verdict_now, Going, Faulty, Within, Stands}
+use Rattle.pieces.specs.Session.{standing, held_bytes, Going, Faulty, Within, Stands}
 use Rattle.pieces.proofs.SessionLaws.{stands_fit, stands_counts}
 use Rattle.pieces.specs.SessionPromises.{no_session, unfit, Pieces}
 use Rattle.session.specs.Changes.{with_bytes}
-use Rattle.session.specs.Feeding.{Able, Behind, Feeds, Tells}
+use Rattle.session.specs.Feeding.{Able, Feeds, Tells}
 
 -- No fault was found, and no number is too large for the bytes given.
 pub record Runnable (s : Session) : Type 0 where

@@ -1,7 +1,6 @@
 -- A session that holds bytes, run over them and some of a piece.
-use Rattle.std.specs.Prelude.{◌≡◌, refl, ◌⊎◌, Bool, true, false, ℕ, zero, suc, ◌+◌, ◌-◌, ◌<◌, ◌≤◌, min, List, [], ◌∷◌, ◌++◌, length, take, drop}
-use Rattle.std.proofs.Common.{sym, ap, ◌∙◌, subst, inl, inr, true≢false, arith, append-nil, append_assoc, length-append, length-take, length-drop, take-append-drop, drop-drop, take_all}
-use Rattle.std.proofs.lemmas.Bool.{false≢true}
+use Rattle.std.specs.Prelude.{◌≡◌, refl, ◌⊎◌, ℕ, ◌+◌, ◌-◌, ◌<◌, ◌≤◌, min, List, [], ◌∷◌, ◌++◌, length, take, drop}
+use Rattle.std.proofs.Common.{sym, ap, ◌∙◌, subst, inl, inr, arith, append-nil, append_assoc, length-append, length-take, length-drop, take-append-drop, drop-drop, take_all}
 use Rattle.std.proofs.Math.Seq.{drop-append-add}
 use Rattle.std.proofs.lemmas.List.{drop-append-le}
 use Rattle.pieces.specs.declared.Session.{Session}
@@ -12,6 +11,7 @@ use Rattle.pieces.specs.Session.{held_bytes}
 use Rattle.session_run.specs.declared.advance.Fed.{Fed}
 use Rattle.session.specs.declared.feed.Tried.{Tried}
 use Rattle.session.specs.declared.feed.Turn.{Turn}
+use Rattle.session.specs.declared.feed.Turn.TheVariants as T
 use Rattle.session_run.specs.Advancing.{Advances}
 use Rattle.session.specs.Changes.{with_held, stop}
 use Rattle.session.specs.Feeding.{Able, Feeds, MayGoOn, able_on, feeds_stopped, feeds_held, feeds_on}
@@ -24,9 +24,9 @@ pub record On (s : Session) (piece : List ℕ) (t : Session) (from : ℕ) : Type
   pub less : t.held + (length piece - from) < s.held + length piece
   pub feeds : {q : Session} → Feeds t (held_bytes t ++ drop from piece) q → Feeds s (held_bytes s ++ piece) q
 
-pub record Turns (s : Session) (piece : List ℕ) (r : Turn) : Type 0 where
-  pub ended : r.over ≡ true → Feeds s (held_bytes s ++ piece) r.session
-  pub goes : r.over ≡ false → On s piece r.session r.from
+abbrev pub Turns : Session → List ℕ → Turn → Type 0
+Turns s piece (T.Over q) = Feeds s (held_bytes s ++ piece) q
+Turns s piece (T.On t from) = On s piece t from
 
 -- ---- a session that holds nothing
 
@@ -193,26 +193,20 @@ tries_made s piece kept buffer {more} able few most full first behind {r} ran =
     }
 
 module _ {s : Session} {piece : List ℕ} {t : Tried} (tries : Tries s piece t) (able : Able s (s.held + length piece)) (some-held : 0 < s.held) (few : s.held < 184) where
-  abbrev ended_at : Session → Turn
-  ended_at q = record { session = q; from = 0; over = true }
-
-  ends : {q : Session} → Feeds s (held_bytes s ++ piece) q → Turns s piece (ended_at q)
-  ends f = record { ended = λ e. f; goes = λ e. absurd (true≢false e) }
-
   pub fits : t.all ≤ 184
   fits =
       let is = tries.all_is in
       let most = tries.most in
       omega arith
 
-  pub turns_stopped : (MayGoOn t.session → ⊥) → {q : Session} → q ≡ stop t.session → Turns s piece (ended_at q)
+  pub turns_stopped : (MayGoOn t.session → ⊥) → {q : Session} → q ≡ stop t.session → Feeds s (held_bytes s ++ piece) q
   turns_stopped fault {q} is =
-      subst (λ q. Turns s piece (ended_at q)) (sym is) (ends (turned_stopped tries.joined tries.ran able tries.based (inl fault)))
+      subst (Feeds s (held_bytes s ++ piece)) (sym is) (turned_stopped tries.joined tries.ran able tries.based (inl fault))
 
   -- More than any part takes is there, and it is cut.
-  pub turns_full : t.at ≡ 0 → 184 ≤ t.all → {q : Session} → q ≡ stop t.session → Turns s piece (ended_at q)
+  pub turns_full : t.at ≡ 0 → 184 ≤ t.all → {q : Session} → q ≡ stop t.session → Feeds s (held_bytes s ++ piece) q
   turns_full none_came many {q} is =
-      subst (λ q. Turns s piece (ended_at q)) (sym is) (ends (turned_stopped tries.joined tries.ran able tries.based (inr enough)))
+      subst (Feeds s (held_bytes s ++ piece)) (sym is) (turned_stopped tries.joined tries.ran able tries.based (inr enough))
     where
       enough : room ≤ length (drop t.at (first_of t.all t.buffer))
       enough =
@@ -220,15 +214,14 @@ module _ {s : Session} {piece : List ℕ} {t : Tried} (tries : Tries s piece t) 
           let b = length-first t.all t.buffer in
           omega arith
 
-  pub turns-held : t.at ≡ 0 → t.all < 184 → {q : Session} → q ≡ with_held t.session t.buffer t.all → Turns s piece (ended_at q)
+  pub turns-held : t.at ≡ 0 → t.all < 184 → {q : Session} → q ≡ with_held t.session t.buffer t.all → Feeds s (held_bytes s ++ piece) q
   turns-held none_came less {q} is =
-      subst (λ q. Turns s piece (ended_at q)) (sym is)
-      (ends (turned_held tries.joined tries.ran able tries.based none_came tries.all_is tries.most less refl))
+      subst (Feeds s (held_bytes s ++ piece)) (sym is)
+      (turned_held tries.joined tries.ran able tries.based none_came tries.all_is tries.most less refl)
 
-  pub turns-behind : s.held ≤ t.at → {q : Session} → q ≡ with_held t.session t.buffer 0 → Turns s piece (record { session = q; from = t.at - s.held; over = false })
+  pub turns-behind : s.held ≤ t.at → {q : Session} → q ≡ with_held t.session t.buffer 0 → On s piece q (t.at - s.held)
   turns-behind behind {q} is =
-      subst (λ q. Turns s piece (record { session = q; from = t.at - s.held; over = false })) (sym is)
-      (record { ended = λ e. absurd (false≢true e); goes = λ e. turned_behind tries.joined tries.ran able tries.based behind some-held })
+      subst (λ q. On s piece q (t.at - s.held)) (sym is) (turned_behind tries.joined tries.ran able tries.based behind some-held)
 
   pub came_within : t.at ≤ t.all
   came_within =
@@ -238,7 +231,7 @@ module _ {s : Session} {piece : List ℕ} {t : Tried} (tries : Tries s piece t) 
       omega arith
 
   pub turns-on : (t.at ≡ 0 → ⊥) → {buffer : List ℕ} {q : Session} → first_of (0 + (t.all - t.at)) buffer ≡ [] ++ take (t.all - t.at) (drop t.at (take t.all t.buffer)) → q ≡ with_held t.session buffer (t.all - t.at)
-      → Turns s piece (record { session = q; from = t.all - s.held; over = false })
+      → On s piece q (t.all - s.held)
   turns-on some-came {buffer} {q} holds is =
       let all_is = tries.all_is in
       let none_more : 0 + (t.all - t.at) ≡ t.all - t.at = omega arith in
@@ -251,8 +244,8 @@ module _ {s : Session} {piece : List ℕ} {t : Tried} (tries : Tries s piece t) 
       ∙ holds
       ∙ ap (λ l. take (t.all - t.at) (drop t.at l)) (take-first t.all t.buffer (omega arith))
       ∙ take_all (t.all - t.at) (drop t.at (first_of t.all t.buffer)) (omega arith) in
-      subst (λ q. Turns s piece (record { session = q; from = t.all - s.held; over = false })) (sym is)
-      (record { ended = λ e. absurd (false≢true e); goes = λ e. turned_on tries.joined tries.ran able tries.based (omega arith) (omega arith) (omega arith) (omega arith) left })
+      subst (λ q. On s piece q (t.all - s.held)) (sym is)
+      (turned_on tries.joined tries.ran able tries.based (omega arith) (omega arith) (omega arith) (omega arith) left)
 
 -- ---- one turn after another
 
@@ -285,34 +278,32 @@ module _ {s t : Session} {piece : List ℕ} {from : ℕ} (along : Along s piece 
       let same : t.held + (length piece - from) ≡ length (take (length piece - from) (drop from piece)) = omega arith in
       subst (Able t) same along.able
 
-  module _ {r : Turn} (turned : Turns t (take (length piece - from) (drop from piece)) r) where
-    turns : Turns t (drop from piece) r
-    turns = subst (λ l. Turns t l r) left_is turned
+  pub along_ended : {q : Session} → Feeds t (held_bytes t ++ take (length piece - from) (drop from piece)) q → Feeds s (held_bytes s ++ piece) q
+  along_ended {q} f = along.feeds (subst (λ l. Feeds t (held_bytes t ++ l) q) left_is f)
 
-    pub along_ended : r.over ≡ true → Feeds s (held_bytes s ++ piece) r.session
-    along_ended over = along.feeds (turns.ended over)
+  module _ {next : Session} {came : ℕ} (turned : On t (take (length piece - from) (drop from piece)) next came) where
+    on : On t (drop from piece) next came
+    on = subst (λ l. On t l next came) left_is turned
 
-    pub along_less : r.over ≡ false → (from + r.from ≤ length piece) × (r.session.held + (length piece - (from + r.from)) < t.held + (length piece - from))
-    along_less more =
-        let on = turns.goes more in
+    pub along_less : (from + came ≤ length piece) × (next.held + (length piece - (from + came)) < t.held + (length piece - from))
+    along_less =
         let long = left-long in
         let there = on.there in
         let before = along.there in
         let less = on.less in
         (omega arith, omega arith)
 
-    pub along_on : r.over ≡ false → Along s piece r.session (from + r.from)
-    along_on more =
-        let on = turns.goes more in
+    pub along_on : Along s piece next (from + came)
+    along_on =
         let long = left-long in
         let there = on.there in
         let before = along.there in
-        let same : length (drop from piece) - r.from ≡ length piece - (from + r.from) = omega arith in
+        let same : length (drop from piece) - came ≡ length piece - (from + came) = omega arith in
         record {
           there = omega arith;
-          able = subst (λ n. Able r.session (r.session.held + n)) same on.able;
+          able = subst (λ n. Able next (next.held + n)) same on.able;
           few-held = on.few-held;
-          feeds = λ {q} f. along.feeds (on.feeds (subst (λ l. Feeds r.session (held_bytes r.session ++ l) q) (sym (drop-drop r.from from piece)) f));
+          feeds = λ {q} f. along.feeds (on.feeds (subst (λ l. Feeds next (held_bytes next ++ l) q) (sym (drop-drop came from piece)) f));
         }
 
   pub along_last : t.held ≡ 0 → {q : Session} → Feeds t (take (length piece - from) (drop from piece)) q → Feeds s (held_bytes s ++ piece) q

@@ -9,7 +9,7 @@ use crate::hold::{appended, kept};
 use drawing::numbers::{ACCEPTED, CUT};
 use pieces::Session;
 use session_run::advance::advance;
-use session_run::place::STOPPED;
+use session_run::stage::Stage;
 
 // So many bytes a session has room for: more than any part takes.
 const ROOM: usize = 184;
@@ -18,37 +18,27 @@ pub fn with_held(s: Session, buffer: [u8; 184], held: usize) -> Session
     requires { held ≤ 184 }
     ensures { result ≡ with_held s buffer held }
 {
-    let mut t = s;
-    t.buffer = buffer;
-    t.held = held as u32;
-    t
+    Session {
+        buffer,
+        held: held as u32,
+        ..s
+    }
 }
 
 fn stopped(s: Session) -> Session
     ensures { result ≡ stop s }
 {
-    let mut t = s;
-    t.stage = STOPPED;
-    t
+    Session {
+        stage: Stage::Stopped as u32,
+        ..s
+    }
 }
 
 // No fault was found: the file may go on here.
 fn goes_on(s: Session) -> bool
     ensures { Tells result (MayGoOn s) }
 {
-    if s.number == ACCEPTED {
-        return true;
-    }
-    s.number == CUT
-}
-
-fn least(a: usize, b: usize) -> usize
-    ensures { result ≡ min a b }
-{
-    if a < b {
-        return a;
-    }
-    b
+    s.number == ACCEPTED || s.number == CUT
 }
 
 // A session that holds nothing, run over some bytes: what is left of them is held, unless there is a fault in them.
@@ -57,17 +47,15 @@ fn fed_alone(s: Session, src: &[u8]) -> Session
     ensures { Feeds s src.now result }
 {
     let next = advance(s, src, s.bytes as usize - src.len());
-    let at = next.at;
-    let left = src.len() - at;
-    let after = next.session;
-    if left < ROOM {
-        if goes_on(after) {
-            let none = [0u8; 184];
-            return with_held(after, appended(none, 0, src, at, left), left);
-        }
-        return stopped(after);
+    let left = src.len() - next.at;
+    if ROOM <= left {
+        return stopped(next.session);
     }
-    stopped(after)
+    if !goes_on(next.session) {
+        return stopped(next.session);
+    }
+    let buffer = appended([0u8; 184], 0, src, next.at, left);
+    with_held(next.session, buffer, left)
 }
 
 // What is held and so much of a piece as there is room for, so many bytes; and the session behind those of them that it came over.
@@ -84,27 +72,23 @@ fn run_joined(s: Session, bytes: &[u8]) -> Tried
     ensures { Tries s bytes.now result }
 {
     let held = s.held as usize;
-    let more = least(bytes.len(), ROOM - held);
+    let more = bytes.len().min(ROOM - held);
     let all = held + more;
-    let old = s.buffer;
-    let joined = appended(kept(old, held), held, bytes, 0, more);
-    let next = advance(s, &joined[..all], s.bytes as usize - bytes.len() - held);
-    let at = next.at;
-    let after = next.session;
+    let buffer = appended(kept(s.buffer, held), held, bytes, 0, more);
+    let next = advance(s, &buffer[..all], s.bytes as usize - bytes.len() - held);
     Tried {
-        session: after,
-        at: at,
-        buffer: joined,
-        all: all,
+        session: next.session,
+        at: next.at,
+        buffer,
+        all,
     }
 }
 
-// A session behind some bytes of a piece, or, at its end, what comes of it.
+// What comes of a turn: all that comes of the piece, or a session that is to be given the piece from a place on.
 #[derive(Clone, Copy)]
-pub struct Turn {
-    pub session: Session,
-    pub from: usize,
-    pub over: bool,
+pub enum Turn {
+    Over(Session),
+    On(Session, usize),
 }
 
 // What comes of the bytes held with some of a piece.
@@ -113,49 +97,22 @@ fn turned(s: Session, bytes: &[u8]) -> Turn
     ensures { Turns s bytes.now result }
 {
     let t = run_joined(s, bytes);
-    let came = t.at;
-    let all = t.all;
-    let buffer = t.buffer;
-    let after = t.session;
-    if goes_on(after) {
-        if came == 0 {
-            if all < ROOM {
-                return Turn {
-                    session: with_held(after, buffer, all),
-                    from: 0,
-                    over: true,
-                };
-            }
-            return Turn {
-                session: stopped(after),
-                from: 0,
-                over: true,
-            };
-        }
-        let held = s.held as usize;
-        if held <= came {
-            return Turn {
-                session: with_held(after, buffer, 0),
-                from: came - held,
-                over: false,
-            };
-        }
-        let none = [0u8; 184];
-        return Turn {
-            session: with_held(
-                after,
-                appended(none, 0, &buffer[..all], came, all - came),
-                all - came,
-            ),
-            from: all - held,
-            over: false,
-        };
+    if !goes_on(t.session) {
+        return Turn::Over(stopped(t.session));
     }
-    Turn {
-        session: stopped(after),
-        from: 0,
-        over: true,
+    if t.at == 0 {
+        if t.all < ROOM {
+            return Turn::Over(with_held(t.session, t.buffer, t.all));
+        }
+        return Turn::Over(stopped(t.session));
     }
+    let held = s.held as usize;
+    if held <= t.at {
+        return Turn::On(with_held(t.session, t.buffer, 0), t.at - held);
+    }
+    let left = t.all - t.at;
+    let buffer = appended([0u8; 184], 0, &t.buffer[..t.all], t.at, left);
+    Turn::On(with_held(t.session, buffer, left), t.all - held)
 }
 
 // The bytes held, and those of a piece.
@@ -166,12 +123,13 @@ pub fn fed(s: Session, bytes: &[u8]) -> Session
     let mut t = s;
     let mut from: usize = 0;
     while 0 < t.held {
-        let turn = turned(t, &bytes[from..]);
-        if turn.over {
-            return turn.session;
+        match turned(t, &bytes[from..]) {
+            Turn::Over(end) => return end,
+            Turn::On(next, came) => {
+                t = next;
+                from += came;
+            }
         }
-        from = from + turn.from;
-        t = turn.session;
     }
     fed_alone(t, &bytes[from..])
 }

@@ -7,13 +7,7 @@ pub fn kept(old: [u8; 184], count: usize) -> [u8; 184]
     requires { count ≤ 184 }
     ensures { (length result ≡ 184) × (first_of count result ≡ first_of count old) }
 {
-    let mut bytes = [0u8; 184];
-    let mut i: usize = 0;
-    while i < count {
-        bytes[i] = old[i];
-        i = i + 1;
-    }
-    bytes
+    appended([0u8; 184], 0, &old, 0, count)
 }
 
 // So many bytes of a run, from a place on, behind so many of the first ones.
@@ -22,10 +16,6 @@ pub fn appended(old: [u8; 184], at: usize, src: &[u8], from: usize, count: usize
     ensures { (length result ≡ 184) × (first_of (at + count) result ≡ first_of at old ++ take count (drop from src.now)) }
 {
     let mut bytes = old;
-    let mut i: usize = 0;
-    while i < count {
-        bytes[at + i] = src[from + i];
-        i = i + 1;
-    }
+    bytes[at..at + count].copy_from_slice(&src[from..from + count]);
     bytes
 }

@@ -11,47 +11,35 @@ use crate::verdict::{Taken, answered, is_unfit, refused};
 use drawing::limits::{DEPTH_LIMIT, LENGTH_LIMIT};
 use drawing::numbers::ACCEPTED;
 use pieces::Session;
-use session_run::place::{COUNTING, OBJECTS};
+use session_run::stage::Stage;
 
 // A group whose count comes next may be open.
 fn may_open(s: Session) -> bool
     ensures { Tells result (s.stage ≡ 5 → s.depth < depth_limit) }
 {
-    if s.stage == COUNTING {
-        return s.depth < DEPTH_LIMIT;
-    }
-    true
+    s.stage != Stage::Counting as u32 || s.depth < DEPTH_LIMIT
 }
 
 // A session that can be run. All that opening began are, up to a fault.
 fn is_runnable(s: Session) -> bool
     ensures { Tells result (Runnable s) }
 {
-    if OBJECTS < s.stage {
-        return false;
-    }
-    if !may_open(s) {
-        return false;
-    }
-    if 184 <= s.held {
-        return false;
-    }
-    if s.bytes < s.held {
-        return false;
-    }
-    if s.bytes - s.held < s.words {
-        return false;
-    }
-    s.rows <= s.bytes - s.held
+    s.stage <= Stage::Objects as u32
+        && may_open(s)
+        && s.held < 184
+        && s.held <= s.bytes
+        && s.words <= s.bytes - s.held
+        && s.rows <= s.bytes - s.held
 }
 
 fn with_bytes(s: Session, bytes: usize) -> Session
     requires { bytes ≤ suc length_limit }
     ensures { result ≡ with_bytes s bytes }
 {
-    let mut t = s;
-    t.bytes = bytes as u32;
-    t
+    Session {
+        bytes: bytes as u32,
+        ..s
+    }
 }
 
 // Bytes are counted after a fault too, up to one more than the limit.

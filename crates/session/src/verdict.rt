@@ -22,8 +22,8 @@ pub fn answered(number: u32, offset: u32) -> Answer
     ensures { result ≡ answer number offset 0 0 }
 {
     Answer {
-        number: number,
-        offset: offset,
+        number,
+        offset,
         rows: 0,
         words: 0,
     }
@@ -53,8 +53,8 @@ pub fn opened(s: Session) -> Taken
             run: 0,
             x: 0,
             y: 0,
-            members: members,
-            buffer: buffer,
+            members,
+            buffer,
         },
         answer: answered(ACCEPTED, 0),
     }
@@ -64,24 +64,14 @@ pub fn opened(s: Session) -> Taken
 pub fn is_unfit(s: Session) -> bool
     ensures { result ≡ unfit s }
 {
-    if DEPTH_LIMIT < s.depth {
-        return true;
-    }
-    LENGTH_LIMIT + 1 < s.bytes as usize
+    DEPTH_LIMIT < s.depth || LENGTH_LIMIT + 1 < s.bytes as usize
 }
 
 // The words of a table: those of the fields, without one for each id and four of the head.
 fn table_words(words: u32, rows: u32) -> u32
     ensures { result ≡ words - rows - 4 }
 {
-    if words < rows {
-        return 0;
-    }
-    let left = words - rows;
-    if left < 4 {
-        return 0;
-    }
-    left - 4
+    words.saturating_sub(rows).saturating_sub(4)
 }
 
 // What a session would answer if no more bytes came.
@@ -115,18 +105,15 @@ fn answer_in(s: Session) -> Answer
 fn spent(s: Session) -> Session
     ensures { result ≡ spend s }
 {
-    let mut t = s;
-    t.spent = 1;
-    t
+    Session { spent: 1, ..s }
 }
 
 // The answer to what is no session: it stays as it is.
 pub fn refused(s: Session) -> Taken
     ensures { (result.session ≡ s) × (result.answer ≡ answer no_session 0 0 0) }
 {
-    let t = s;
     Taken {
-        session: t,
+        session: s,
         answer: answered(NO_SESSION, 0),
     }
 }

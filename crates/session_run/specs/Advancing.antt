@@ -1,16 +1,15 @@
 -- What running a session over some bytes promises.
-use Rattle.std.specs.Prelude.{◌≡◌, refl, ◌⊎◌, Bool, true, false, cond, ℕ, zero, suc, ◌+◌, ◌-◌, ◌^◌, ◌<◌, ◌≤◌, List, ltb, length, drop, get_or}
-use Rattle.std.proofs.Common.{sym, ap, ◌∙◌, subst, inl, inr, arith}
-use Rattle.drawing.specs.Limits.{length_limit, depth_limit}
-use Rattle.ways.specs.Passes.{refused, Ready}
-use Rattle.pieces.specs.declared.Inside.{Inside}
+use Rattle.std.specs.Prelude.{◌≡◌, cond, ℕ, ◌+◌, ◌^◌, ◌<◌, ◌≤◌, List, ltb, length, get_or}
+use Rattle.std.proofs.Common.{sym, ap, subst, arith}
+use Rattle.drawing.specs.Limits.{length_limit}
+use Rattle.ways.specs.Passes.{Ready}
 use Rattle.pieces.specs.declared.Session.{Session}
-use Rattle.pieces.specs.Session.{inside_of, standing}
+use Rattle.pieces.specs.Session.{inside_of}
 use Rattle.session_run.specs.declared.place.Place.{Place}
 use Rattle.session_run.specs.declared.run.Ran.{Ran}
 use Rattle.session_run.specs.declared.advance.Fed.{Fed}
-use Rattle.session_run.specs.Objects.{standing_of, Sound}
-use Rattle.session_run.specs.Running.{Came, Runs}
+use Rattle.session_run.specs.Objects.{Sound}
+use Rattle.session_run.specs.Running.{Runs}
 
 abbrev pub place_of : Session → Place
 place_of s = record { stage = s.stage; version = s.version; depth = s.depth; rows = s.rows; inside = inside_of s }

@@ -3,7 +3,6 @@ use Rattle.std.specs.Prelude.{◌≡◌, Bool, true, false, ℕ, zero, suc, ◌+
 use Rattle.std.proofs.Math.Path.{refl, ap, fun_ext}
 use Rattle.std.proofs.Common.{sym, ◌∙◌, subst, drop-drop, le-leb, ne_eqb}
 use Rattle.std.proofs.Math.Bool.{cond}
-use Rattle.std.proofs.Math.Option.{none, some}
 use Rattle.std.proofs.Math.Nat as Nat
 use native.Mathlib.Omega.{arith}
 use Rattle.std.proofs.Math.ListN.{length, length-drop}
@@ -18,25 +17,25 @@ use Rattle.drawing.specs.Fields as F
 use Rattle.drawing.specs.String.{string, chars}
 use Rattle.ways.specs.declared.Pass.{Pass}
 use Rattle.ways.specs.declared.FieldPass.{FieldPass}
-use Rattle.ways.specs.Passes.{refused, Ready, refusal_of, refusal_ready}
+use Rattle.ways.specs.Passes.{refused, Ready, refusal_of}
 use Rattle.ways.specs.Runs.{Any}
 use Rattle.ways.specs.Carries.{Asked}
 use Rattle.ways.specs.Segments.{straight, doubles_behind, closed_letter, segment_letter}
 use Rattle.from_file.specs.Way.{way}
 use Rattle.pieces.specs.declared.Inside.{Inside}
-use Rattle.pieces.specs.Going.{room, Goes, goes_is, goes_same, goes_nowhere}
-use Rattle.pieces.specs.FieldLaws.{run-goes, chars-goes, field_stops}
-use Rattle.pieces.specs.Parts.{any_of, end_on, part_then, parts_on, inside}
-use Rattle.pieces.specs.PartLaws.{with_parts, next_part, is_dashes, is_string, is_words, is_latex, is_latex_along, is_links, is_outline, is_count, is_segment, is_first, is_joined, is_end_x, is_end_y, is_end}
+use Rattle.pieces.specs.Going.{room, goes_is, goes_same}
+use Rattle.pieces.specs.FieldLaws.{run-goes, chars-goes}
+use Rattle.pieces.specs.Parts.{any_of, part_then, parts_on, inside}
+use Rattle.pieces.specs.PartLaws.{with_parts, next_part, is_dashes, is_string, is_words, is_latex, is_latex_along, is_links, is_outline, is_count, is_segment, is_first, is_joined, is_end_x, is_end_y}
 use Rattle.pieces.specs.LeafLaws.{text-flag, along_flag, links_flag}
 use Rattle.pieces.specs.OutlineLaws.{segments_from, outline-parts, count_old, count_new, free_letter, first_letter, joined_letter, end_x, end_y, dash_run}
-use Rattle.session_run.specs.declared.step.InsideStep.{InsideStep}
+use Rattle.session_run.specs.declared.cursor.Step.{Step}
 use Rattle.session_run.specs.Steps.{StepsTo, steps_same, steps_gone, steps_silent, field_steps}
 use Rattle.session_run.specs.Wholes.{PartWhole}
 use Rattle.session_run.specs.Told.{Told, told-cut}
 
-pub record InsideSteps (v : ℕ) (s : Inside) (us : List ℕ) (at to : ℕ) (r : InsideStep) : Type 0 where
-  pub steps : StepsTo (inside v s) (inside v r.inside) us at to r.at r.to
+pub record InsideSteps (v : ℕ) (s : Inside) (us : List ℕ) (at to : ℕ) (r : Step Inside) : Type 0 where
+  pub steps : StepsTo (inside v s) (inside v r.left) us at to r.pass.at r.pass.to
 
 -- No run comes before the next part, which is this one.
 pub record Next (s : Inside) (part : ℕ) : Type 0 where
@@ -55,7 +54,7 @@ with_run s p n w = record { parts = p; run = n; width = w; segments = s.segments
 -- ---- whole parts
 
 pub whole-inside : {v : ℕ} {s : Inside} {part : ℕ} {us : List ℕ} {at to : ℕ} {p : Pass} → Next s part → PartWhole v s.x s.y part us at to p
-    → InsideSteps v s us at to (record { inside = with_parts s (s.parts / 25); at = p.at; to = p.to })
+    → InsideSteps v s us at to (record { left = with_parts s (s.parts / 25); pass = p })
 whole-inside {v} {s} {part} next whole =
     record { steps = steps_same (next_part v s part next.no_run next.digit next.small) refl (whole.steps s.segments (inside v (with_parts s (s.parts / 25)))) }
 
@@ -68,11 +67,11 @@ pub record Telling (v : ℕ) (s : Inside) (k : Kind) (then : ℕ → Inside) : T
 module _ {v : ℕ} {s : Inside} {k : Kind} {then : ℕ → Inside} (telling : Telling v s k then) {us : List ℕ} {at to : ℕ} {q : FieldPass} where
   -- by a function of the template, and by one of those beside it
   pub asked-inside : 0 < size k.shape → size k.shape ≤ room → Below 256 us → at ≤ length us → {m m' : List ℕ} → Asked k way us m m' at to q → {s' : Inside} → s' ≡ then q.value
-      → InsideSteps v s us at to (record { inside = s'; at = q.pass.at; to = q.pass.to })
+      → InsideSteps v s us at to (record { left = s'; pass = q.pass })
   asked-inside wide fits below inside-them asked is =
       record { steps = steps_same telling.is (ap (inside v) (sym is)) (field_steps k wide fits (λ n. inside v (then n)) below inside-them asked) }
 
-  pub told-inside : Told (Unit {0}) k us at to q → {s' : Inside} → s' ≡ then q.value → InsideSteps v s us at to (record { inside = s'; at = q.pass.at; to = q.pass.to })
+  pub told-inside : Told (Unit {0}) k us at to q → {s' : Inside} → s' ≡ then q.value → InsideSteps v s us at to (record { left = s'; pass = q.pass })
   told-inside told is = record { steps = steps_same telling.is (ap (inside v) (sym is)) (told.steps (λ n. inside v (then n))) }
 
 module _ (v : ℕ) (s : Inside) where
@@ -146,7 +145,7 @@ module _ (v : ℕ) (s : Inside) where
   words_spell next = record { is = next_part v s 13 next.no_run next.digit next.small ∙ is_words v s.segments s.x s.y (inside v (with_parts s (s.parts / 25))) }
 
   pub string-inside : {least : ℕ} → Spelling v s least → {us : List ℕ} {at to : ℕ} {q : FieldPass} → Below 256 us → at ≤ length us → {m m' : List ℕ} → Asked (F.string_length least) way us m m' at to q
-      → InsideSteps v s us at to (record { inside = with_run s (s.parts / 25) q.value 2; at = q.pass.at; to = q.pass.to })
+      → InsideSteps v s us at to (record { left = with_run s (s.parts / 25) q.value 2; pass = q.pass })
   unfolding inside
   string-inside {least} spelling {us} {q = q} below inside-them asked =
       let K = inside v (with_parts s (s.parts / 25)) in
@@ -176,7 +175,7 @@ pub record Fielded (w bytes : ℕ) : Type 0 where
 module _ (v : ℕ) (s : Inside) {bytes : ℕ} (fielded : Fielded s.width bytes) {us : List ℕ} (below : Below 256 us) {at to : ℕ} (ready : Ready (length us) at to) (there : at ≤ length us) where
   -- So many of its fields are there.
   pub run_inside : (taken left : ℕ) → 0 < taken → s.run ≡ taken + left → taken * bytes ≤ length us - at
-      → InsideSteps v s us at to (record { inside = with_run s s.parts left s.width; at = at + taken * bytes; to = to + taken * ((bytes + 3) / 4) })
+      → InsideSteps v s us at to (record { left = with_run s s.parts left s.width; pass = record { at = at + taken * bytes; to = to + taken * ((bytes + 3) / 4) } })
   unfolding inside
   run_inside taken left more all fits =
       let K = parts_on v s.segments s.x s.y 14 s.parts in
@@ -201,7 +200,7 @@ module _ (v : ℕ) (s : Inside) {bytes : ℕ} (fielded : Fielded s.width bytes) 
       }
 
   -- Not even one.
-  pub run-cut : 0 < s.run → length us - at < bytes → {p : Pass} → p ≡ refusal_of way 2 at → InsideSteps v s us at to (record { inside = s; at = p.at; to = p.to })
+  pub run-cut : 0 < s.run → length us - at < bytes → {p : Pass} → p ≡ refusal_of way 2 at → InsideSteps v s us at to (record { left = s; pass = p })
   run-cut more short {p} is = record { steps = steps_gone off (by s.run refl) }
     where
       off : refused ≤ p.at
@@ -227,10 +226,6 @@ module _ (v : ℕ) (s : Inside) {bytes : ℕ} (fielded : Fielded s.width bytes) 
         where
           begins : (n : ℕ) → s.run ≡ suc n → inside v s ≡ ask k (λ c. repeat n (field k) ⟫ K)
           begins n e = run_begins v s n e
-
--- What a step came to, said otherwise.
-pub step_is : {v : ℕ} {s : Inside} {us : List ℕ} {at to : ℕ} {r r' : InsideStep} → r ≡ r' → InsideSteps v s us at to r' → InsideSteps v s us at to r
-step_is {v} {s} {us} {at} {to} is steps = subst (InsideSteps v s us at to) (sym is) steps
 
 -- As many fields as are there fit, with their words.
 pub fields_fit : (n bytes taken : ℕ) → 0 < bytes → taken ≤ n / bytes → (taken * bytes ≤ n) × (taken * ((bytes + 3) / 4) ≤ n)

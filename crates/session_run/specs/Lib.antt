@@ -1,4 +1,6 @@
 -- What the functions of a session promise.
+pub mod Cursors
+pub mod Digit
 pub mod Steps
 pub mod Wholes
 pub mod Told

@@ -1,10 +1,9 @@
 -- What the functions over a place in a file promise: one part was judged, and what is left of the file is what is left behind it.
 use Rattle.std.specs.Prelude.{◌≡◌, Bool, true, false, cond, ◌&&◌, not, List, [], ◌∷◌, eqb, leb, ltb, length, get_or, set}
 use Rattle.std.proofs.Math.Path.{refl}
-use Rattle.std.proofs.Common.{sym, ap, ap₂, ◌∙◌, subst, length-set, eqb-true, eq-eqb, ne_eqb, lt-ltb, le-ltb, leb-true, ltb-true, ltb-false, add-one}
+use Rattle.std.proofs.Common.{sym, ap, ◌∙◌, subst, length-set, eqb-true, eq-eqb, ne_eqb, lt-ltb, le-ltb, leb-true, ltb-true, ltb-false, add-one}
 use Rattle.std.proofs.lemmas.Bool.{false≢true}
 use Prim.Native.Nat.{ℕ, zero, suc, ◌+◌, ◌-◌, ◌%◌, ◌^◌, ◌<◌, ◌≤◌}
-use Prim.Native.Char.{code}
 use native.Mathlib.Omega.{arith}
 use Rattle.format.specs.Digits.{Below}
 use Rattle.format.specs.Kind.{Kind}
@@ -16,7 +15,7 @@ use Rattle.format.specs.Pass.{◌⟫◌, done}
 use Rattle.drawing.specs.Limits.{depth_limit, last_minor}
 use Rattle.drawing.specs.Settings.{absent_case, all_case, paper_case, settings}
 use Rattle.drawing.specs.SettingsLaws.{one_of_two, one_of_three}
-use Rattle.drawing.specs.Fields.{byte_in, flag, unless, object_fault, object_id, member_count, magic, version_length, version_chars, version_zero}
+use Rattle.drawing.specs.Fields.{byte_in, flag, unless, object_fault, object_id, member_count, version_chars, version_zero}
 use Rattle.drawing.specs.LeafLayout.{is_leaf}
 use Rattle.drawing.proofs.ObjectLaws.{group_no_leaf}
 use Rattle.ways.specs.declared.Pass.{Pass}
@@ -30,10 +29,9 @@ use Rattle.pieces.specs.BoundLaws.{Most}
 use Rattle.pieces.specs.declared.Inside.{Inside}
 use Rattle.pieces.specs.Parts.{Standing, inside, groups, rest_at, rest}
 use Rattle.pieces.specs.PartLaws.{with_parts}
-use Rattle.pieces.specs.EntryLaws.{leaf_parts, none_inside, staged, known, counting, among, outer_id, rest-magic, rest-length, rest-version, rest-settings, rest-outer, rest-count, rest_ended, rest-alone, rest_nested, leaf_on_lem, group_on_lem, leaf_on, group_on}
-use Rattle.session_run.specs.declared.step.InsideStep.{InsideStep}
+use Rattle.pieces.specs.EntryLaws.{leaf_parts, none_inside, counting, among, rest-count, rest_ended, rest-alone, rest_nested, leaf_on_lem, group_on_lem, leaf_on, group_on}
+use Rattle.session_run.specs.declared.cursor.Step.{Step}
 use Rattle.session_run.specs.declared.place.Place.{Place}
-use Rattle.session_run.specs.declared.place.PlaceStep.{PlaceStep}
 use Rattle.session_run.specs.Steps.{StepsTo, steps_same, steps_gone, steps_end, steps_behind, layout_steps, field_steps}
 use Rattle.session_run.specs.Told.{Told}
 use Rattle.session_run.specs.Insides.{InsideSteps, Opened, Next}
@@ -47,12 +45,12 @@ pub record Sound (p : Place) : Type 0 where
   pub shallow : p.depth ≤ depth_limit
   pub may-open : p.stage ≡ 5 → p.depth < depth_limit
 
-pub record PlaceSteps (p : Place) (ms ms' us : List ℕ) (at to : ℕ) (r : PlaceStep) : Type 0 where
-  pub steps : StepsTo (rest (standing_of p ms)) (rest (standing_of r.place ms')) us at to r.at r.to
-  pub kept : refused ≤ r.at → ms' ≡ ms
+pub record PlaceSteps (p : Place) (ms ms' us : List ℕ) (at to : ℕ) (r : Step Place) : Type 0 where
+  pub steps : StepsTo (rest (standing_of p ms)) (rest (standing_of r.left ms')) us at to r.pass.at r.pass.to
+  pub kept : refused ≤ r.pass.at → ms' ≡ ms
   pub sized : length ms' ≡ length ms
-  pub sound : r.at < refused → Sound r.place
-  pub few-rows : r.place.rows ≤ p.rows + 1
+  pub sound : r.pass.at < refused → Sound r.left
+  pub few-rows : r.left.rows ≤ p.rows + 1
 
 -- Nothing is left of the object that is open.
 pub record Between (s : Inside) : Type 0 where
@@ -81,20 +79,20 @@ pub record Unended (p : Place) : Type 0 where
 -- ---- the head
 
 -- Whatever the members of groups are, of which there is room for some.
-pub record HeadSteps (p : Place) (us : List ℕ) (at to : ℕ) (r : PlaceStep) : Type 0 where
-  pub steps : (ms : List ℕ) → 0 < length ms → StepsTo (rest (standing_of p ms)) (rest (standing_of r.place ms)) us at to r.at r.to
-  pub sound : r.at < refused → Sound r.place
-  pub few-rows : r.place.rows ≤ p.rows + 1
+pub record HeadSteps (p : Place) (us : List ℕ) (at to : ℕ) (r : Step Place) : Type 0 where
+  pub steps : (ms : List ℕ) → 0 < length ms → StepsTo (rest (standing_of p ms)) (rest (standing_of r.left ms)) us at to r.pass.at r.pass.to
+  pub sound : r.pass.at < refused → Sound r.left
+  pub few-rows : r.left.rows ≤ p.rows + 1
 
 module _ (p : Place) {n : ℕ} (Stage-is : p.stage ≡ n) where
   -- What is left at this stage.
   here : (ms : List ℕ) → rest (standing_of p ms) ≡ rest_at n (standing_of p ms)
   here ms = ap (λ stage. rest_at stage (standing_of p ms)) Stage-is
 
-  module _ {us : List ℕ} {at to : ℕ} {r : PlaceStep} where
+  module _ {us : List ℕ} {at to : ℕ} {r : Step Place} where
     -- A field that tells nothing.
     pub head-told : (k : Kind) (p' : Place) → ((ms : List ℕ) → 0 < length ms → rest_at n (standing_of p ms) ≡ ask k (λ v. rest (standing_of p' ms))) → Sound p' → p'.rows ≤ p.rows + 1
-        → {q : FieldPass} → Told ℕ k us at to q → r ≡ record { place = p'; at = q.pass.at; to = q.pass.to } → HeadSteps p us at to r
+        → {q : FieldPass} → Told ℕ k us at to q → r ≡ record { left = p'; pass = q.pass } → HeadSteps p us at to r
     head-told k p' asks sound few {q} told is =
         subst (HeadSteps p us at to) (sym is)
         (record {
@@ -105,7 +103,7 @@ module _ (p : Place) {n : ℕ} (Stage-is : p.stage ≡ n) where
 
     -- The settings, which are judged whole.
     pub head-whole : {A : Type 0} (L : Layout A) {most : ℕ} (p' : Place) → ((ms : List ℕ) → 0 < length ms → rest_at n (standing_of p ms) ≡ script L.format (λ t. rest (standing_of p' ms))) → Sound p' → p'.rows ≤ p.rows + 1
-        → Most most L → most ≤ room → Asks (L ⟫ done) → at ≤ length us → {m m' : List ℕ} {q : Pass} → Laid L.format way us m m' at to q.at q.to → r ≡ record { place = p'; at = q.at; to = q.to } → HeadSteps p us at to r
+        → Most most L → most ≤ room → Asks (L ⟫ done) → at ≤ length us → {m m' : List ℕ} {q : Pass} → Laid L.format way us m m' at to q.at q.to → r ≡ record { left = p'; pass = q } → HeadSteps p us at to r
     head-whole L p' asks sound few bound fits first inside {q = q} laid is =
         subst (HeadSteps p us at to) (sym is)
         (record {
@@ -116,7 +114,7 @@ module _ (p : Place) {n : ℕ} (Stage-is : p.stage ≡ n) where
 
     -- A field that tells what follows, if it is passed.
     pub head_tells : (k : Kind) (next : List ℕ → ℕ → Script ℕ) (p' : Place) → ((ms : List ℕ) → 0 < length ms → rest_at n (standing_of p ms) ≡ ask k (next ms)) → p'.rows ≤ p.rows + 1
-        → {q : FieldPass} → (q.pass.at < refused → Sound p' × ((ms : List ℕ) → next ms q.value ≡ rest (standing_of p' ms))) → Told ℕ k us at to q → r ≡ record { place = p'; at = q.pass.at; to = q.pass.to } → HeadSteps p us at to r
+        → {q : FieldPass} → (q.pass.at < refused → Sound p' × ((ms : List ℕ) → next ms q.value ≡ rest (standing_of p' ms))) → Told ℕ k us at to q → r ≡ record { left = p'; pass = q.pass } → HeadSteps p us at to r
     head_tells k next p' asks few {q} then told is =
         subst (HeadSteps p us at to) (sym is)
         (record {
@@ -149,19 +147,19 @@ version_range c fine = by (leb version_zero c) refl (leb c (version_zero + last_
 -- ---- groups and objects
 
 -- A step that was refused leaves everything as it was.
-pub place_gone : {p : Place} {ms us : List ℕ} {at to : ℕ} {t : Script ℕ} {q : Pass} {r : PlaceStep} → refused ≤ q.at → StepsTo (rest (standing_of p ms)) t us at to q.at q.to
-    → r ≡ record { place = p; at = q.at; to = q.to } → PlaceSteps p ms ms us at to r
+pub place_gone : {p : Place} {ms us : List ℕ} {at to : ℕ} {t : Script ℕ} {q : Pass} {r : Step Place} → refused ≤ q.at → StepsTo (rest (standing_of p ms)) t us at to q.at q.to
+    → r ≡ record { left = p; pass = q } → PlaceSteps p ms ms us at to r
 place_gone {p} {ms} {us} {at} {to} off steps is =
     subst (PlaceSteps p ms ms us at to) (sym is) (record { steps = steps_gone off steps; kept = λ off. refl; sized = refl; sound = λ on. absurd (omega arith); few-rows = omega arith })
 
 -- One that went on.
-pub place_went : {p p' : Place} {ms ms' us : List ℕ} {at to : ℕ} {q : Pass} {r : PlaceStep} → q.at < refused → StepsTo (rest (standing_of p ms)) (rest (standing_of p' ms')) us at to q.at q.to
-    → length ms' ≡ length ms → Sound p' → p'.rows ≤ p.rows + 1 → r ≡ record { place = p'; at = q.at; to = q.to } → PlaceSteps p ms ms' us at to r
+pub place_went : {p p' : Place} {ms ms' us : List ℕ} {at to : ℕ} {q : Pass} {r : Step Place} → q.at < refused → StepsTo (rest (standing_of p ms)) (rest (standing_of p' ms')) us at to q.at q.to
+    → length ms' ≡ length ms → Sound p' → p'.rows ≤ p.rows + 1 → r ≡ record { left = p'; pass = q } → PlaceSteps p ms ms' us at to r
 place_went {p} {ms = ms} {ms'} {us} {at} {to} on steps sized sound few is =
     subst (PlaceSteps p ms ms' us at to) (sym is) (record { steps = steps; kept = λ off. absurd (omega arith); sized = sized; sound = λ on. sound; few-rows = few })
 
 -- In the head no group has members yet.
-pub place-head : {p : Place} {ms us : List ℕ} {at to : ℕ} {r : PlaceStep} → 0 < length ms → HeadSteps p us at to r → PlaceSteps p ms ms us at to r
+pub place-head : {p : Place} {ms us : List ℕ} {at to : ℕ} {r : Step Place} → 0 < length ms → HeadSteps p us at to r → PlaceSteps p ms ms us at to r
 place-head {ms = ms} some head = record { steps = head.steps ms some; kept = λ off. refl; sized = refl; sound = head.sound; few-rows = head.few-rows }
 
 -- A group's count.
@@ -280,11 +278,11 @@ module _ (p : Place) (ms : List ℕ) (objects-now : p.stage ≡ 6) (nothing_left
   abbrev pub ended_group : Inside → Place
   ended_group i = record { stage = 6; version = p.version; depth = p.depth - 1; rows = p.rows; inside = i }
 
-  pub ended_steps : {us : List ℕ} {at to : ℕ} {r : InsideStep} → InsideSteps p.version (with_parts p.inside 24) us at to r → StepsTo (rest (standing_of p ms)) (rest (standing_of (ended_group r.inside) ms)) us at to r.at r.to
+  pub ended_steps : {us : List ℕ} {at to : ℕ} {r : Step Inside} → InsideSteps p.version (with_parts p.inside 24) us at to r → StepsTo (rest (standing_of p ms)) (rest (standing_of (ended_group r.left) ms)) us at to r.pass.at r.pass.to
   unfolding rest_at
   ended_steps {r = r} steps =
       steps_same (here p objects-now ms ∙ rest_ended (standing_of p ms) nothing_left deep none_left) refl
-      (steps_behind (inside p.version (with_parts p.inside 24)) (inside p.version r.inside) (λ u. groups p.version ms (p.depth - 1) p.rows) steps.steps)
+      (steps_behind (inside p.version (with_parts p.inside 24)) (inside p.version r.left) (λ u. groups p.version ms (p.depth - 1) p.rows) steps.steps)
     where
       deep : p.depth ≡ suc (p.depth - 1)
       deep = omega arith
@@ -294,11 +292,11 @@ module _ (p : Place) (ms : List ℕ) (objects-now : p.stage ≡ 6) where
   abbrev pub with_inside : Inside → Place
   with_inside i = record { stage = 6; version = p.version; depth = p.depth; rows = p.rows; inside = i }
 
-  pub inside_steps : {us : List ℕ} {at to : ℕ} {r : InsideStep} → InsideSteps p.version p.inside us at to r → StepsTo (rest (standing_of p ms)) (rest (standing_of (with_inside r.inside) ms)) us at to r.at r.to
+  pub inside_steps : {us : List ℕ} {at to : ℕ} {r : Step Inside} → InsideSteps p.version p.inside us at to r → StepsTo (rest (standing_of p ms)) (rest (standing_of (with_inside r.left) ms)) us at to r.pass.at r.pass.to
   unfolding rest_at
   inside_steps {r = r} steps =
       steps_same (here p objects-now ms) refl
-      (steps_behind (inside p.version p.inside) (inside p.version r.inside) (λ u. groups p.version ms p.depth p.rows) steps.steps)
+      (steps_behind (inside p.version p.inside) (inside p.version r.left) (λ u. groups p.version ms p.depth p.rows) steps.steps)
 
 -- ---- what the functions return
 
@@ -310,40 +308,40 @@ module _ (p : Place) (ms : List ℕ) (counting-now : p.stage ≡ 5) (deep-enough
   pub count-counted : StepsTo (rest (standing_of p ms)) (count_then p ms counting-now deep-enough q.value) us at to q.pass.at q.pass.to
   count-counted = steps_same (count-asks p ms counting-now deep-enough) refl (field_steps member_count (omega arith) (omega arith) (count_then p ms counting-now deep-enough) below inside-them asked)
 
-  pub count_went : q.pass.at < refused → p.depth < depth_limit → {i : Inside} → i ≡ with_parts p.inside 0 → {r : PlaceStep}
-      → r ≡ record { place = record { stage = 6; version = p.version; depth = p.depth + 1; rows = p.rows; inside = i }; at = q.pass.at; to = q.pass.to }
+  pub count_went : q.pass.at < refused → p.depth < depth_limit → {i : Inside} → i ≡ with_parts p.inside 0 → {r : Step Place}
+      → r ≡ record { left = record { stage = 6; version = p.version; depth = p.depth + 1; rows = p.rows; inside = i }; pass = q.pass }
       → PlaceSteps p ms (set ms p.depth q.value) us at to r
   count_went on less {i} inside_is is =
       place_went on (steps_same refl (count-opens p ms counting-now deep-enough q.value) count-counted) (length-set ms p.depth q.value)
       (record { staged = omega arith; shallow = omega arith; may-open = λ e. absurd (omega arith) }) (omega arith)
-      (is ∙ ap {B = PlaceStep} (λ i. record { place = record { stage = 6; version = p.version; depth = p.depth + 1; rows = p.rows; inside = i }; at = q.pass.at; to = q.pass.to }) inside_is)
+      (is ∙ ap {B = Step Place} (λ i. record { left = record { stage = 6; version = p.version; depth = p.depth + 1; rows = p.rows; inside = i }; pass = q.pass }) inside_is)
 
 -- An object's id.
 module _ (p : Place) (ms : List ℕ) (objects-now : p.stage ≡ 6) (nothing_left : inside p.version p.inside ≡ done) (some-deep : 0 < p.depth) (some_left : 0 < get_or ms (p.depth - 1) 0) (room_for : length ms ≡ depth_limit) (sound : Sound p) {us : List ℕ} {at to : ℕ} {q : FieldPass} (told : Told ℕ (object_id (is_leaf p.version) (ltb p.depth depth_limit)) us at to q) (on : q.pass.at < refused) where
-  pub object_group : q.value ≡ 71 → {g : Place} → g ≡ record { stage = 5; version = p.version; depth = p.depth; rows = p.rows + 1; inside = p.inside } → {r : PlaceStep} → r ≡ record { place = g; at = q.pass.at; to = q.pass.to }
+  pub object_group : q.value ≡ 71 → {g : Place} → g ≡ record { stage = 5; version = p.version; depth = p.depth; rows = p.rows + 1; inside = p.inside } → {r : Step Place} → r ≡ record { left = g; pass = q.pass }
       → PlaceSteps p ms (set ms (p.depth - 1) (get_or ms (p.depth - 1) 0 - 1)) us at to r
   object_group is-group {g} g-is is =
       place_went on (group_steps p ms objects-now nothing_left some-deep some_left room_for sound told on is-group) (length-set ms (p.depth - 1) (get_or ms (p.depth - 1) 0 - 1))
       (record { staged = omega arith; shallow = sound.shallow; may-open = λ e. group_deeper p ms objects-now nothing_left some-deep some_left room_for sound told on is-group }) (omega arith)
-      (is ∙ ap {B = PlaceStep} (λ g. record { place = g; at = q.pass.at; to = q.pass.to }) g-is)
+      (is ∙ ap {B = Step Place} (λ g. record { left = g; pass = q.pass }) g-is)
 
   pub object_leaf : (q.value ≡ 71 → ⊥) → {n : ℕ} → n ≡ leaf_parts p.version q.value → {i : Inside} → i ≡ with_parts p.inside n
-      → {g : Place} → g ≡ record { stage = 6; version = p.version; depth = p.depth; rows = p.rows + 1; inside = i } → {r : PlaceStep} → r ≡ record { place = g; at = q.pass.at; to = q.pass.to }
+      → {g : Place} → g ≡ record { stage = 6; version = p.version; depth = p.depth; rows = p.rows + 1; inside = i } → {r : Step Place} → r ≡ record { left = g; pass = q.pass }
       → PlaceSteps p ms (set ms (p.depth - 1) (get_or ms (p.depth - 1) 0 - 1)) us at to r
   object_leaf no_group {n} n-is {i} i-is {g} g-is is =
       place_went on (leaf_steps p ms objects-now nothing_left some-deep some_left room_for sound told on no_group) (length-set ms (p.depth - 1) (get_or ms (p.depth - 1) 0 - 1))
       (record { staged = omega arith; shallow = sound.shallow; may-open = λ e. absurd (omega arith) }) (omega arith)
       (is
-      ∙ ap {B = PlaceStep} (λ g. record { place = g; at = q.pass.at; to = q.pass.to }) g-is
-      ∙ ap {B = PlaceStep} (λ i. record { place = record { stage = 6; version = p.version; depth = p.depth; rows = p.rows + 1; inside = i }; at = q.pass.at; to = q.pass.to }) (i-is ∙ ap (with_parts p.inside) n-is))
+      ∙ ap {B = Step Place} (λ g. record { left = g; pass = q.pass }) g-is
+      ∙ ap {B = Step Place} (λ i. record { left = record { stage = 6; version = p.version; depth = p.depth; rows = p.rows + 1; inside = i }; pass = q.pass }) (i-is ∙ ap (with_parts p.inside) n-is))
 
 -- A group's end.
 pub end_next : (s : Inside) {i : Inside} → i ≡ with_parts s 24 → Next i 24
 end_next s is = subst (λ i. Next i 24) (sym is) (record { no_run = refl; digit = refl; small = omega arith })
 
 pub ended-place : (p : Place) (ms : List ℕ) → p.stage ≡ 6 → inside p.version p.inside ≡ done → 0 < p.depth → get_or ms (p.depth - 1) 0 ≡ 0 → Sound p → {i : Inside} → i ≡ with_parts p.inside 24
-    → {us : List ℕ} {at to : ℕ} {r : InsideStep} → InsideSteps p.version i us at to r
-    → PlaceSteps p ms ms us at to (record { place = record { stage = 6; version = p.version; depth = p.depth - 1; rows = p.rows; inside = r.inside }; at = r.at; to = r.to })
+    → {us : List ℕ} {at to : ℕ} {r : Step Inside} → InsideSteps p.version i us at to r
+    → PlaceSteps p ms ms us at to (record { left = record { stage = 6; version = p.version; depth = p.depth - 1; rows = p.rows; inside = r.left }; pass = r.pass })
 ended-place p ms objects-now nothing_left some-deep none_left sound is {us} {at} {to} {r} steps =
     let few = sound.shallow in
     record {
@@ -355,8 +353,8 @@ ended-place p ms objects-now nothing_left some-deep none_left sound is {us} {at}
     }
 
 -- A part of the object that is open.
-pub open_place : (p : Place) (ms : List ℕ) → p.stage ≡ 6 → Sound p → {us : List ℕ} {at to : ℕ} {r : InsideStep} → InsideSteps p.version p.inside us at to r
-    → PlaceSteps p ms ms us at to (record { place = record { stage = 6; version = p.version; depth = p.depth; rows = p.rows; inside = r.inside }; at = r.at; to = r.to })
+pub open_place : (p : Place) (ms : List ℕ) → p.stage ≡ 6 → Sound p → {us : List ℕ} {at to : ℕ} {r : Step Inside} → InsideSteps p.version p.inside us at to r
+    → PlaceSteps p ms ms us at to (record { left = record { stage = 6; version = p.version; depth = p.depth; rows = p.rows; inside = r.left }; pass = r.pass })
 open_place p ms objects-now sound steps =
     record {
       steps = inside_steps p ms objects-now steps;

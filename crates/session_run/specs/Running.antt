@@ -1,14 +1,13 @@
 -- What running over some bytes, part by part, promises.
-use Rattle.std.specs.Prelude.{◌≡◌, refl, ◌⊎◌, Bool, true, false, cond, ℕ, zero, suc, ◌+◌, ◌-◌, ◌^◌, ◌<◌, ◌≤◌, List, ltb, length, drop}
-use Rattle.std.proofs.Common.{sym, ap, ◌∙◌, subst, inl, inr, arith}
+use Rattle.std.specs.Prelude.{◌≡◌, refl, ◌⊎◌, cond, ℕ, ◌+◌, ◌-◌, ◌<◌, ◌≤◌, List, ltb, length, drop}
+use Rattle.std.proofs.Common.{sym, ◌∙◌, subst, inl, inr, arith}
 use Rattle.ways.specs.Passes.{refused, Ready}
 use Rattle.pieces.specs.Going.{Goes, Stops, goes_nowhere, goes_on, goes_is}
 use Rattle.pieces.specs.Parts.{rest}
 use Rattle.session_run.specs.declared.place.Place.{Place}
-use Rattle.session_run.specs.declared.place.PlaceStep.{PlaceStep}
+use Rattle.session_run.specs.declared.cursor.Step.{Step}
 use Rattle.session_run.specs.declared.run.Ran.{Ran}
-use Rattle.session_run.specs.Steps.{StepsTo}
-use Rattle.session_run.specs.Objects.{standing_of, Sound, Over, IsOver, Unended, PlaceSteps}
+use Rattle.session_run.specs.Objects.{standing_of, Sound, Over, PlaceSteps}
 
 -- From the beginning of some bytes to a place in them: what is left comes to the same, with so many words more.
 pub record Came (p : Place) (ms : List ℕ) (p' : Place) (ms' us : List ℕ) (to at to' : ℕ) : Type 0 where
@@ -34,7 +33,7 @@ came_nowhere {us = us} {to} sound ready =
 
 module _ {p p' : Place} {ms ms' us : List ℕ} {to at to' : ℕ} (came : Came p ms p' ms' us to at to') where
   -- One part more.
-  pub came_on : {ms'' : List ℕ} {r : PlaceStep} → r.at < refused → PlaceSteps p' ms' ms'' us at to' r → Came p ms r.place ms'' us to r.at r.to
+  pub came_on : {ms'' : List ℕ} {r : Step Place} → r.pass.at < refused → PlaceSteps p' ms' ms'' us at to' r → Came p ms r.left ms'' us to r.pass.at r.pass.to
   came_on {ms''} {r} on step =
       let moves = step.steps.moves on in
       let further = moves.0 in
@@ -45,7 +44,7 @@ module _ {p p' : Place} {ms ms' us : List ℕ} {to at to' : ℕ} (came : Came p 
       let high = before.1 in
       let rows = step.few-rows in
       let rows_before = came.few-rows in
-      let sum : to' - to + (r.to - to') ≡ r.to - to = omega arith in
+      let sum : to' - to + (r.pass.to - to') ≡ r.pass.to - to = omega arith in
       record {
         goes = goes_is refl sum (goes_on came.goes (step.steps.goes on));
         there = moves.1;
@@ -57,9 +56,9 @@ module _ {p p' : Place} {ms ms' us : List ℕ} {to at to' : ℕ} (came : Came p 
       }
 
   -- It is refused here.
-  pub came_stopped : {ms'' : List ℕ} {r : PlaceStep} → refused ≤ r.at → PlaceSteps p' ms' ms'' us at to' r → Runs p ms ms'' us to (record { place = p'; at = at; to = to'; number = r.to; stop = r.at - refused })
+  pub came_stopped : {ms'' : List ℕ} {r : Step Place} → refused ≤ r.pass.at → PlaceSteps p' ms' ms'' us at to' r → Runs p ms ms'' us to (record { place = p'; at = at; to = to'; number = r.pass.to; stop = r.pass.at - refused })
   came_stopped {ms''} {r} off step =
-      subst (λ ms''. Runs p ms ms'' us to (record { place = p'; at = at; to = to'; number = r.to; stop = r.at - refused })) (sym (step.kept off))
+      subst (λ ms''. Runs p ms ms'' us to (record { place = p'; at = at; to = to'; number = r.pass.to; stop = r.pass.at - refused })) (sym (step.kept off))
       (let stops = step.steps.stops off in record { came = came; inside = stops.1; ended = inl stops.0 })
 
   -- Nothing is left.

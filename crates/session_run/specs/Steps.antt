@@ -1,27 +1,27 @@
 -- A step over a part of a file: what is left before it comes to what is left behind it, whatever comes behind the bytes that are there.
-use Rattle.std.specs.Prelude.{◌≡◌, refl, Bool, true, false, cond, ℕ, zero, suc, ◌+◌, ◌-◌, ◌<◌, ◌≤◌, List, ltb, length, drop}
-use Rattle.std.proofs.Common.{sym, ap, ◌∙◌, subst, arith, length-drop, lt-ltb, le-ltb}
+use Rattle.std.specs.Prelude.{◌≡◌, refl, Bool, true, false, cond, ℕ, ◌+◌, ◌-◌, ◌<◌, ◌≤◌, List, ltb, length, drop}
+use Rattle.std.proofs.Common.{sym, ap, ◌∙◌, arith, length-drop, lt-ltb, le-ltb}
 use Rattle.std.proofs.Math.Nat as Nat
 use Rattle.format.specs.Digits.{Below}
-use Rattle.format.specs.Kind.{Kind, size}
+use Rattle.format.specs.Kind.{Kind}
 use Rattle.format.specs.Codec.{Outcome, found, and_then}
 use Rattle.format.specs.Codec as C
-use Rattle.format.specs.Script.{Script, end, ask}
+use Rattle.format.specs.Script.{Script, ask}
 use Rattle.format.specs.Format.{script}
 use Rattle.format.specs.Layout.{Layout, field}
 use Rattle.format.specs.ParsingLaws.{followed}
-use Rattle.format.specs.Pass.{Passed, through, stopped, pass, ◌⟫◌, done}
+use Rattle.format.specs.Pass.{through, stopped, pass, ◌⟫◌, done}
 use Rattle.drawing.specs.Codecs.{byte_fields, word_fields}
 use Rattle.drawing.specs.Reading.{bytes}
 use Rattle.laws.specs.CodecLaws.{bytes_sensible}
 use Rattle.ways.specs.declared.FieldPass.{FieldPass}
-use Rattle.ways.specs.Passes.{refused, behind, Ready, behind_going}
+use Rattle.ways.specs.Passes.{refused, Ready, behind_going}
 use Rattle.ways.specs.Carries.{Asked, Laid}
 use Rattle.ways.specs.LayoutLaws.{valued-laid}
 use Rattle.ways.specs.LandLaws.{Takes, takes}
 use Rattle.from_file.specs.Way.{way}
 use Rattle.pieces.specs.Tally.{plus, tallied}
-use Rattle.pieces.specs.TallyLaws.{Under, Asks, found_shorter, asks_takes}
+use Rattle.pieces.specs.TallyLaws.{Asks, found_shorter, asks_takes}
 use Rattle.pieces.specs.PassingLaws.{to_words, Says, pass-says}
 use Rattle.pieces.specs.Going.{room, Goes, Stops, goes_on, goes_is, goes_same, stops_same, goes-behind, stops_behind}
 use Rattle.pieces.specs.FieldLaws.{field-goes, field_stops, layout_goes, layout_stops}

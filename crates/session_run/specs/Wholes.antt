@@ -1,8 +1,8 @@
 -- What the functions over parts that are judged whole promise.
-use Rattle.std.specs.Prelude.{◌≡◌, refl, ℕ, zero, suc, ◌*◌, ◌<◌, ◌≤◌, List, length}
-use Rattle.std.proofs.Common.{sym, ap, ◌∙◌, arith}
+use Rattle.std.specs.Prelude.{◌≡◌, refl, ℕ, zero, suc, ◌<◌, ◌≤◌, List, length}
+use Rattle.std.proofs.Common.{ap, arith}
 use Rattle.format.specs.Script.{Script}
-use Rattle.format.specs.Layout.{Layout, field, repeat, ◌&◌}
+use Rattle.format.specs.Layout.{Layout, field, repeat}
 use Rattle.format.specs.Pass.{◌⟫◌, done}
 use Rattle.drawing.specs.Fields as F
 use Rattle.ways.specs.declared.Pass.{Pass}

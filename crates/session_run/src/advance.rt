@@ -1,7 +1,7 @@
 // A session, run over some bytes.
-ghost use Rattle.std.specs.Prelude.{◌≡◌, cond, ltb, ℕ, ◌+◌, ◌^◌, ◌<◌, ◌≤◌, length, get_or};
+ghost use Rattle.std.specs.Prelude.{◌≡◌, cond, ltb, ℕ, ◌+◌, ◌^◌, ◌<◌, ◌≤◌, length};
 ghost use Rattle.drawing.specs.Limits.{length_limit};
-ghost use Rattle.session_run.specs.Advancing.{place_of, after_run, Tame, Advances};
+ghost use Rattle.session_run.specs.Advancing.{place_of, after_run, Copied, Tame, Advances};
 
 use crate::place::Place;
 use crate::run::{Ran, run};
@@ -38,10 +38,7 @@ fn place_of(s: Session) -> Place
 fn number_of(number: usize) -> u32
     ensures { result ≡ cond (ltb number 14) number 2 }
 {
-    if number < 14 {
-        return number as u32;
-    }
-    CUT
+    if number < 14 { number as u32 } else { CUT }
 }
 
 // What a run came to, in a session: the bytes before those that were run over are so many.
@@ -49,41 +46,38 @@ fn after_run(s: Session, ran: Ran, members: [u32; 16], base: usize) -> Session
     requires { (ran.to < 2 ^ 32) × (base + ran.stop < 2 ^ 32) }
     ensures { result ≡ after_run s ran members base }
 {
-    let p = ran.place;
-    let i = p.inside;
-    let buffer = s.buffer;
+    let Place {
+        stage,
+        version,
+        depth,
+        rows,
+        inside,
+    } = ran.place;
     Session {
-        spent: s.spent,
-        depth: p.depth,
-        bytes: s.bytes,
+        depth,
         number: number_of(ran.number),
         offset: (base + ran.stop) as u32,
-        rows: p.rows,
+        rows,
         words: ran.to as u32,
-        version: p.version,
-        stage: p.stage,
-        width: i.width,
-        segments: i.segments,
-        held: s.held,
-        parts: i.parts,
-        run: i.run,
-        x: i.x,
-        y: i.y,
-        members: members,
-        buffer: buffer,
+        version,
+        stage,
+        width: inside.width,
+        segments: inside.segments,
+        parts: inside.parts,
+        run: inside.run,
+        x: inside.x,
+        y: inside.y,
+        members,
+        ..s
     }
 }
 
 // The members left, in an array that is known to have room for each depth.
 fn copied(old: [u32; 16]) -> [u32; 16]
-    ensures { (length result ≡ 16) × ((i : ℕ) → i < 16 → get_or result i 0 ≡ get_or old i 0) }
+    ensures { (length result ≡ 16) × Copied old result }
 {
     let mut members = [0u32; 16];
-    let mut i: usize = 0;
-    while i < 16 {
-        members[i] = old[i];
-        i = i + 1;
-    }
+    members.copy_from_slice(&old);
     members
 }
 
@@ -92,12 +86,10 @@ pub fn advance(s: Session, src: &[u8], base: usize) -> Fed
     requires { Tame s × (base + length src.now ≤ length_limit) }
     ensures { Advances s src.now base result }
 {
-    let held = s.members;
-    let mut members = copied(held);
+    let mut members = copied(s.members);
     let ran = run(src, s.words as usize, place_of(s), &mut members);
-    let at = ran.at;
     Fed {
         session: after_run(s, ran, members, base),
-        at: at,
+        at: ran.at,
     }
 }

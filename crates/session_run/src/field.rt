@@ -1,158 +1,189 @@
 // Fields whose values tell what follows, that the template has no function for: ids, the head's, and a double with its value.
-ghost use Rattle.std.specs.Prelude.{◌≡◌, ℕ, ◌+◌, ◌^◌, ◌<◌, ◌≤◌, length};
+ghost use Rattle.std.specs.Prelude.{◌≡◌, ◌+◌, ◌/◌, ◌≤◌, length};
+ghost use Rattle.format.specs.Kind.{Kind, size};
 ghost use Rattle.drawing.specs.Fields as F;
 ghost use Rattle.drawing.specs.LeafLayout.{is_leaf};
 ghost use Rattle.ways.specs.Passes.{refusal_of};
-ghost use Rattle.layout.specs.Lays.{Begins};
 ghost use Rattle.from_file.specs.Way.{way};
+ghost use Rattle.reader.specs.FieldsAt.{number_at};
 ghost use Rattle.reader.specs.OuterLaws.{outer_id};
-ghost use Rattle.session_run.specs.Told.{Told, told_of};
+ghost use Rattle.session_run.specs.Told.{Judged, told_of, Sized, Plain, double_plain, object_plain, outer_plain, magic_plain, length_plain, version_plain};
 
+use crate::cursor::Cursor;
 use drawing::head::{MAGIC, VERSION_LAST, VERSION_LENGTH, VERSION_ZERO};
 use drawing::letters::GROUP;
 use drawing::numbers::{BAD_CHAR, BAD_VERSION, CUT, NO_JDR};
+use fields::fault::unless;
 use fields::letters::object_fault;
 use from_file::FromFile;
 use reader::head::chars_at;
 use ways::FieldPass;
 use ways::way::Way;
 
+// A field by its kind: any number of so many bytes is a value, or the fault that it is.
+pub trait Field: Copy {
+    ghost kind: { Self → Kind };
+
+    ghost laws: { (f : Self) → Plain (kind f) };
+
+    fn size(self) -> usize
+        ensures { result ≡ size (kind self).shape };
+
+    // the number of a refusal, 0 for none
+    fn fault(self, value: u64) -> u32
+        ensures { result ≡ (kind self).fault value };
+}
+
+// A coordinate.
+#[derive(Clone, Copy)]
+pub struct Double;
+
+impl Field for Double {
+    ghost kind = { λ f. F.double };
+
+    ghost laws = { λ f. double_plain };
+
+    fn size(self) -> usize {
+        8
+    }
+
+    fn fault(self, value: u64) -> u32 {
+        0
+    }
+}
+
+// An object's id, where a group may nest deeper or not.
+#[derive(Clone, Copy)]
+pub struct ObjectId {
+    pub version: u32,
+    pub deeper: bool,
+}
+
+impl Field for ObjectId {
+    ghost kind = { λ f. F.object_id (is_leaf f.version) f.deeper };
+
+    ghost laws = { λ f. object_plain f.version f.deeper };
+
+    fn size(self) -> usize {
+        2
+    }
+
+    fn fault(self, value: u64) -> u32 {
+        object_fault(self.deeper, self.version, value)
+    }
+}
+
+// The outer object's id.
+#[derive(Clone, Copy)]
+pub struct OuterId;
+
+impl Field for OuterId {
+    ghost kind = { λ f. outer_id };
+
+    ghost laws = { λ f. outer_plain };
+
+    fn size(self) -> usize {
+        2
+    }
+
+    fn fault(self, value: u64) -> u32 {
+        unless(value == GROUP, BAD_CHAR)
+    }
+}
+
+// The chars JDR.
+#[derive(Clone, Copy)]
+pub struct Magic;
+
+impl Field for Magic {
+    ghost kind = { λ f. F.magic };
+
+    ghost laws = { λ f. magic_plain };
+
+    fn size(self) -> usize {
+        6
+    }
+
+    fn fault(self, value: u64) -> u32 {
+        unless(value == MAGIC, NO_JDR)
+    }
+}
+
+// The number of the version's chars.
+#[derive(Clone, Copy)]
+pub struct VersionLength;
+
+impl Field for VersionLength {
+    ghost kind = { λ f. F.version_length };
+
+    ghost laws = { λ f. length_plain };
+
+    fn size(self) -> usize {
+        4
+    }
+
+    fn fault(self, value: u64) -> u32 {
+        unless(value == VERSION_LENGTH, BAD_VERSION)
+    }
+}
+
+// The version's chars.
+#[derive(Clone, Copy)]
+pub struct VersionChars;
+
+impl Field for VersionChars {
+    ghost kind = { λ f. F.version_chars };
+
+    ghost laws = { λ f. version_plain };
+
+    fn size(self) -> usize {
+        6
+    }
+
+    fn fault(self, value: u64) -> u32 {
+        unless(VERSION_ZERO <= value && value <= VERSION_LAST, BAD_VERSION)
+    }
+}
+
 // A value behind so many bytes and words, or the fault that it is.
-fn told(at: usize, to: usize, bytes: usize, words: usize, value: u64, fault: u32) -> FieldPass
-    requires { (at + bytes < 2 ^ 60) × (to + words < 2 ^ 60) }
-    ensures { result ≡ told_of at to bytes words value fault }
+fn told(here: Cursor, bytes: usize, value: u64, fault: u32) -> FieldPass
+    requires { (bytes ≤ 8) × (here.at + bytes ≤ length here.src.now) }
+    ensures { result ≡ told_of here.entry.at here.entry.to bytes ((bytes + 3) / 4) value fault }
 {
     if fault != 0 {
         return FieldPass {
             value: 0,
-            pass: FromFile::refusal(fault, at),
+            pass: FromFile::refusal(fault, here.at),
         };
     }
     FieldPass {
-        value: value,
-        pass: FromFile::ahead(at, to, bytes, words),
+        value,
+        pass: FromFile::ahead(here.at, here.to, bytes, (bytes + 3) / 4),
     }
 }
 
-fn cut_here(at: usize) -> FieldPass
-    requires { at < 2 ^ 60 }
-    ensures { result ≡ record { value = 0; pass = refusal_of way 2 at } }
+// The number of so many bytes.
+fn number_at(src: &[u8], at: usize, size: usize) -> u64
+    requires { Sized size × (at + size ≤ length src.now) }
+    ensures { result ≡ number_at size src.now at }
 {
+    if size == 6 {
+        return chars_at(&*src, at);
+    }
+    FromFile::get(&*src, at, size)
+}
+
+// The next field's value, and how far that is; or where and why it is refused.
+pub fn judged<K: Field>(here: Cursor, field: K) -> FieldPass
+    ensures { Judged (K.kind field) here.entry.src.now here.entry.at here.entry.to result }
+{
+    let size = field.size();
+    if FromFile::there(here.src, here.at, size, (size + 3) / 4) {
+        let value = number_at(here.src, here.at, size);
+        return told(here, size, value, field.fault(value));
+    }
     FieldPass {
         value: 0,
-        pass: FromFile::refusal(CUT, at),
+        pass: FromFile::refusal(CUT, here.at),
     }
-}
-
-// A coordinate, with its value.
-pub fn double(src: &[u8], at: usize, to: usize) -> FieldPass
-    requires begins { Begins src.now at to }
-    requires at_in_bounds { at ≤ length src.now }
-    ensures { Told (Unit {0}) F.double src.now at to result }
-{
-    if FromFile::there(&*src, at, 8, 2) {
-        return told(at, to, 8, 2, FromFile::get(&*src, at, 8), 0);
-    }
-    cut_here(at)
-}
-
-// An object's id, where a group may nest deeper or not.
-pub fn object_id(src: &[u8], at: usize, to: usize, version: u32, deeper: bool) -> FieldPass
-    requires begins { Begins src.now at to }
-    requires at_in_bounds { at ≤ length src.now }
-    ensures { Told ℕ (F.object_id (is_leaf version) deeper) src.now at to result }
-{
-    if FromFile::there(&*src, at, 2, 1) {
-        let letter = FromFile::get(&*src, at, 2);
-        return told(at, to, 2, 1, letter, object_fault(deeper, version, letter));
-    }
-    cut_here(at)
-}
-
-fn group_fault(letter: u64) -> u32
-    ensures { result ≡ outer_id.fault letter }
-{
-    if letter == GROUP {
-        return 0;
-    }
-    BAD_CHAR
-}
-
-// The outer object's id.
-pub fn outer_id(src: &[u8], at: usize, to: usize) -> FieldPass
-    requires begins { Begins src.now at to }
-    requires at_in_bounds { at ≤ length src.now }
-    ensures { Told ℕ outer_id src.now at to result }
-{
-    if FromFile::there(&*src, at, 2, 1) {
-        let letter = FromFile::get(&*src, at, 2);
-        return told(at, to, 2, 1, letter, group_fault(letter));
-    }
-    cut_here(at)
-}
-
-fn length_fault(length: u64) -> u32
-    ensures { result ≡ (F.version_length).fault length }
-{
-    if length == VERSION_LENGTH {
-        return 0;
-    }
-    BAD_VERSION
-}
-
-pub fn version_length(src: &[u8], at: usize, to: usize) -> FieldPass
-    requires begins { Begins src.now at to }
-    requires at_in_bounds { at ≤ length src.now }
-    ensures { Told ℕ F.version_length src.now at to result }
-{
-    if FromFile::there(&*src, at, 4, 1) {
-        let length = FromFile::get(&*src, at, 4);
-        return told(at, to, 4, 1, length, length_fault(length));
-    }
-    cut_here(at)
-}
-
-fn magic_fault(chars: u64) -> u32
-    ensures { result ≡ (F.magic).fault chars }
-{
-    if chars == MAGIC {
-        return 0;
-    }
-    NO_JDR
-}
-
-pub fn magic(src: &[u8], at: usize, to: usize) -> FieldPass
-    requires begins { Begins src.now at to }
-    requires at_in_bounds { at ≤ length src.now }
-    ensures { Told ℕ F.magic src.now at to result }
-{
-    if FromFile::there(&*src, at, 6, 2) {
-        let chars = chars_at(&*src, at);
-        return told(at, to, 6, 2, chars, magic_fault(chars));
-    }
-    cut_here(at)
-}
-
-fn version_fault(chars: u64) -> u32
-    ensures { result ≡ (F.version_chars).fault chars }
-{
-    if chars < VERSION_ZERO {
-        return BAD_VERSION;
-    }
-    if VERSION_LAST < chars {
-        return BAD_VERSION;
-    }
-    0
-}
-
-pub fn version_chars(src: &[u8], at: usize, to: usize) -> FieldPass
-    requires begins { Begins src.now at to }
-    requires at_in_bounds { at ≤ length src.now }
-    ensures { Told ℕ F.version_chars src.now at to result }
-{
-    if FromFile::there(&*src, at, 6, 2) {
-        let chars = chars_at(&*src, at);
-        return told(at, to, 6, 2, chars, version_fault(chars));
-    }
-    cut_here(at)
 }

@@ -2,9 +2,11 @@
 #![tactic(auto)]
 
 pub mod advance;
+pub mod cursor;
 pub mod field;
 pub mod parts;
 pub mod place;
 pub mod run;
+pub mod stage;
 pub mod step;
 pub mod whole;

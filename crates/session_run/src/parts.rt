@@ -1,102 +1,127 @@
 // The parts of a file, by which a session goes on: each is a digit of base 25. What is left of an object is a number of several digits, the next part
 // lowest (specs: Parts).
+ghost use Rattle.std.specs.Prelude.{◌≡◌, ◌%◌};
+ghost use Rattle.session_run.specs.Digit.{digit};
 
-// none is left: an object's id comes next, or the end of the innermost group
-pub const NONE: u64 = 0;
+// A part, by its digit.
+#[derive(Clone, Copy)]
+pub enum Part {
+    // none is left: an object's id comes next, or the end of the innermost group
+    Nothing,
 
-// parts that are judged whole
-pub const PAINT: u64 = 1;
+    // parts that are judged whole
+    Paint,
+    Width,
+    LineEnd,
+    Markers,
+    Point,
+    Controls,
+    Join,
+    Face,
+    Transformation,
+    Alignment,
 
-pub const WIDTH: u64 = 2;
+    // counts, lengths and flags, which tell what follows
+    Dashes,
+    String,
+    Words,
 
-pub const LINE_END: u64 = 3;
+    // the last ones of their number: each tells all that is left
+    Latex,
+    LatexAlong,
+    Links,
+    Outline,
+    Count,
+    Segment,
+    First,
+    Joined,
+    EndX,
+    EndY,
+    End,
+}
 
-pub const MARKERS: u64 = 4;
-
-pub const POINT: u64 = 5;
-
-pub const CONTROLS: u64 = 6;
-
-pub const JOIN: u64 = 7;
-
-pub const FACE: u64 = 8;
-
-pub const TRANSFORMATION: u64 = 9;
-
-pub const ALIGNMENT: u64 = 10;
-
-// counts, lengths and flags, which tell what follows
-pub const DASHES: u64 = 11;
-
-pub const STRING: u64 = 12;
-
-pub const WORDS: u64 = 13;
-
-// the last ones of their number: each tells all that is left
-pub const LATEX: u64 = 14;
-
-pub const LATEX_ALONG: u64 = 15;
-
-pub const LINKS: u64 = 16;
-
-pub const OUTLINE: u64 = 17;
-
-pub const COUNT: u64 = 18;
-
-pub const SEGMENT: u64 = 19;
-
-pub const FIRST: u64 = 20;
-
-pub const JOINED: u64 = 21;
-
-pub const END_X: u64 = 22;
-
-pub const END_Y: u64 = 23;
-
-pub const END: u64 = 24;
+impl Part {
+    // The next part of a number.
+    pub fn next(parts: u64) -> Self
+        ensures { digit result ≡ parts % 25 }
+    {
+        match parts % BASE {
+            1 => Part::Paint,
+            2 => Part::Width,
+            3 => Part::LineEnd,
+            4 => Part::Markers,
+            5 => Part::Point,
+            6 => Part::Controls,
+            7 => Part::Join,
+            8 => Part::Face,
+            9 => Part::Transformation,
+            10 => Part::Alignment,
+            11 => Part::Dashes,
+            12 => Part::String,
+            13 => Part::Words,
+            14 => Part::Latex,
+            15 => Part::LatexAlong,
+            16 => Part::Links,
+            17 => Part::Outline,
+            18 => Part::Count,
+            19 => Part::Segment,
+            20 => Part::First,
+            21 => Part::Joined,
+            22 => Part::EndX,
+            23 => Part::EndY,
+            24 => Part::End,
+            _ => Part::Nothing,
+        }
+    }
+}
 
 // ---- numbers of several parts
 
-const B: u64 = 25;
+pub const BASE: u64 = 25;
 
-pub const ARROW_PATH: u64 = PAINT
-    + B * (PAINT
-        + B * (WIDTH
-            + B * (DASHES + B * (LINE_END + B * (MARKERS + B * (MARKERS + B * OUTLINE))))));
+macro_rules! parts {
+    ($last:ident) => {
+        Part::$last as u64
+    };
+    ($next:ident, $($more:ident),+) => {
+        Part::$next as u64 + BASE * parts!($($more),+)
+    };
+}
 
-pub const MARKED_PATH: u64 = PAINT
-    + B * (PAINT
-        + B * (WIDTH
-            + B * (DASHES
-                + B * (LINE_END + B * (MARKERS + B * (MARKERS + B * (MARKERS + B * OUTLINE)))))));
+pub const ARROW_PATH: u64 = parts!(
+    Paint, Paint, Width, Dashes, LineEnd, Markers, Markers, Outline
+);
 
-pub const TEXT_PARTS: u64 = STRING + B * (FACE + B * LATEX);
+pub const MARKED_PATH: u64 = parts!(
+    Paint, Paint, Width, Dashes, LineEnd, Markers, Markers, Markers, Outline
+);
 
-pub const ALONG_PARTS: u64 = PAINT + B * (STRING + B * (FACE + B * LATEX_ALONG));
+pub const TEXT_PARTS: u64 = parts!(String, Face, Latex);
 
-pub const BITMAP_PARTS: u64 = WORDS + B * LINKS;
+pub const ALONG_PARTS: u64 = parts!(Paint, String, Face, LatexAlong);
 
-pub const TEXT_END: u64 = PAINT + B * (WORDS + B * END);
+pub const BITMAP_PARTS: u64 = parts!(Words, Links);
 
-pub const TEXT_LATEX: u64 = STRING
-    + B * (STRING
-        + B * (STRING
-            + B * (STRING + B * (ALIGNMENT + B * (STRING + B * (PAINT + B * (WORDS + B * END)))))));
+pub const TEXT_END: u64 = parts!(Paint, Words, End);
 
-pub const ALONG_END: u64 = WORDS + B * OUTLINE;
+pub const TEXT_LATEX: u64 = parts!(
+    String, String, String, String, Alignment, String, Paint, Words, End
+);
 
-pub const ALONG_LATEX: u64 = STRING
-    + B * (STRING
-        + B * (STRING + B * (STRING + B * (ALIGNMENT + B * (STRING + B * (WORDS + B * OUTLINE))))));
+pub const ALONG_END: u64 = parts!(Words, Outline);
 
-pub const BITMAP_END: u64 = TRANSFORMATION + B * END;
+pub const ALONG_LATEX: u64 = parts!(
+    String, String, String, String, Alignment, String, Words, Outline
+);
 
-pub const BITMAP_LATEX: u64 = STRING + B * (STRING + B * (TRANSFORMATION + B * END));
+pub const BITMAP_END: u64 = parts!(Transformation, End);
 
-pub const FREE_LINE: u64 = POINT + B * END_X;
+pub const BITMAP_LATEX: u64 = parts!(String, String, Transformation, End);
 
-pub const FREE_CURVE: u64 = POINT + B * (CONTROLS + B * END_X);
+pub const FREE_LINE: u64 = parts!(Point, EndX);
 
-pub const JOINED_LINE: u64 = JOIN + B * END_X;
+pub const FREE_CURVE: u64 = parts!(Point, Controls, EndX);
 
-pub const JOINED_CURVE: u64 = JOIN + B * (CONTROLS + B * END_X);
+pub const JOINED_LINE: u64 = parts!(Join, EndX);
+
+pub const JOINED_CURVE: u64 = parts!(Join, Controls, EndX);

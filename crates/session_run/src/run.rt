@@ -4,6 +4,7 @@ ghost use Rattle.layout.specs.Lays.{Begins};
 ghost use Rattle.session_run.specs.Objects.{Sound};
 ghost use Rattle.session_run.specs.Running.{Runs};
 
+use crate::cursor::Cursor;
 use crate::place::{Place, is_over, step};
 use drawing::numbers::{ACCEPTED, TRAILING_BYTES};
 use ways::REFUSED;
@@ -23,9 +24,10 @@ fn end_number(at: usize, total: usize) -> usize
     ensures { result ≡ cond (ltb at total) 13 0 }
 {
     if at < total {
-        return TRAILING_BYTES as usize;
+        TRAILING_BYTES as usize
+    } else {
+        ACCEPTED as usize
     }
-    ACCEPTED as usize
 }
 
 pub fn run(src: &[u8], to: usize, place: Place, members: &mut [u32]) -> Ran
@@ -33,31 +35,31 @@ pub fn run(src: &[u8], to: usize, place: Place, members: &mut [u32]) -> Ran
     requires sound { Sound place × (place.rows ≤ 2 ^ 20) × (length members.old ≡ 16) }
     ensures { Runs place members.old members.new src.now to result }
 {
-    let mut here = place;
+    let mut place = place;
     let mut at: usize = 0;
-    let mut words = to;
+    let mut to = to;
     loop {
-        if is_over(here) {
+        if is_over(place) {
             return Ran {
-                place: here,
-                at: at,
-                to: words,
+                place,
+                at,
+                to,
                 number: end_number(at, src.len()),
                 stop: at,
             };
         }
-        let next = step(&*src, at, words, here, members);
-        if REFUSED <= next.at {
+        let next = step(Cursor { src, at, to }, place, members);
+        if REFUSED <= next.pass.at {
             return Ran {
-                place: here,
-                at: at,
-                to: words,
-                number: next.to,
-                stop: next.at - REFUSED,
+                place,
+                at,
+                to,
+                number: next.pass.to,
+                stop: next.pass.at - REFUSED,
             };
         }
-        here = next.place;
-        at = next.at;
-        words = next.to;
+        place = next.left;
+        at = next.pass.at;
+        to = next.pass.to;
     }
 }

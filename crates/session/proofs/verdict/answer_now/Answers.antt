@@ -3,7 +3,7 @@ use Rattle.drawing.specs.declared.Answer.{Answer}
 use borrow.Author.Tests.{eq-eqb, ne_eqb}
 use Prim.Native.Nat.{◌-◌}
 use mathlib.Core.Bool.{cond}
-use mathlib.Core.Path.{◌≡◌, sym, ap, ◌∙◌}
+use mathlib.Core.Path.{sym, ap, ◌∙◌}
 use Rattle.session.proofs.verdict.answer_now.Goals as goal
 
 pub returns-then-s-eq-ACCEPTED : goal.returns-then-s-eq-ACCEPTED

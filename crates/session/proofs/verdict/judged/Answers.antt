@@ -1,5 +1,5 @@
 use Rattle.pieces.proofs.SessionLaws.{verdicts_refused, verdicts_given}
-use mathlib.Core.Path.{◌≡◌, sym, ◌∙◌}
+use mathlib.Core.Path.{sym, ◌∙◌}
 use Rattle.session.proofs.verdict.judged.Goals as goal
 
 pub returns-then-is_unfit : goal.returns-then-is_unfit

@@ -1,5 +1,5 @@
 use Rattle.session_run.specs.Running.{Runs}
-use Rattle.session_run.specs.Advancing.{run_ready, place_of}
+use Rattle.session_run.specs.Advancing.{run_ready}
 use mathlib.Core.Path.{refl, subst}
 use Rattle.session_run.proofs.advance.advance.Goals as goal
 
@@ -10,4 +10,4 @@ run-ran-requires c =
 
 pub returns : goal.returns
 returns c =
-    record { ran = c.run-ran.result; before = c.copied-members.result; copied = record { same = c.copied-members.ensures.1 }; members = c.run-ran.new.members; runs = subst (λ p. Runs p c.copied-members.result c.run-ran.new.members c.args.src.now c.args.s.words c.run-ran.result) c.place_of.ensures c.run-ran.ensures; at-is = refl; session-is = c.after_run.ensures }
+    record { ran = c.run-ran.result; before = c.copied-members.result; copied = c.copied-members.ensures.1; members = c.run-ran.new.members; runs = subst (λ p. Runs p c.copied-members.result c.run-ran.new.members c.args.src.now c.args.s.words c.run-ran.result) c.place_of.ensures c.run-ran.ensures; at-is = refl; session-is = c.after_run.ensures }

@@ -7,4 +7,4 @@ use Rattle.session_run.proofs.whole.alignment.Goals as goal
 
 pub returns : goal.returns
 returns c =
-    laid-whole L.alignment alignment_2 (omega arith) (omega arith) c.requires.at_in_bounds (valued-laid c.byte-horizontal.ensures ⨾ valued-laid c.byte-vertical.ensures)
+    laid-whole L.alignment alignment_2 (omega arith) (omega arith) c.args.here.inside (valued-laid c.byte-across.ensures ⨾ valued-laid c.byte.ensures)

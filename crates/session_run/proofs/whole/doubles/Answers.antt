@@ -5,4 +5,4 @@ use Rattle.session_run.proofs.whole.doubles.Goals as goal
 
 pub returns : goal.returns
 returns c =
-    doubles-whole c.args.count c.requires.at_in_bounds.1 c.requires.at_in_bounds.2 c.requires.at_in_bounds.0 (valued-laid (c.run.ensures.values F.double any-double))
+    doubles-whole c.args.count c.requires.0 c.requires.1 c.args.here.inside (valued-laid (c.run.ensures.values F.double any-double))

@@ -8,4 +8,4 @@ use Rattle.session_run.proofs.whole.face.Goals as goal
 
 pub returns : goal.returns
 returns c =
-    laid-whole T.face face_54 (omega arith) (omega arith) c.requires.at_in_bounds (valued-laid c.byte-shape.ensures ⨾ valued-laid c.byte-series.ensures ⨾ valued-laid c.font_size-size.ensures ⨾ valued-laid (c.run.ensures.values F.double any-double))
+    laid-whole T.face face_54 (omega arith) (omega arith) c.args.here.inside (valued-laid c.byte-shape.ensures ⨾ valued-laid c.byte-series.ensures ⨾ valued-laid c.font_size-size.ensures ⨾ valued-laid (c.run.ensures.values F.double any-double))

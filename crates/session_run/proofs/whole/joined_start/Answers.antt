@@ -8,4 +8,4 @@ use Rattle.session_run.proofs.whole.joined_start.Goals as goal
 
 pub returns : goal.returns
 returns c =
-    laid-whole (field (F.joined c.args.x) & field (F.joined c.args.y)) (joined_16 c.args.x c.args.y) (omega arith) (omega arith) c.requires.at_in_bounds (valued-laid c.joined-across.ensures ⨾ valued-laid c.joined-up.ensures)
+    laid-whole (field (F.joined c.args.x) & field (F.joined c.args.y)) (joined_16 c.args.x c.args.y) (omega arith) (omega arith) c.args.here.inside (valued-laid c.joined-across.ensures ⨾ valued-laid c.joined.ensures)

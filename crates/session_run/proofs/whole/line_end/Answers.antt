@@ -7,4 +7,4 @@ use Rattle.session_run.proofs.whole.line_end.Goals as goal
 
 pub returns : goal.returns
 returns c =
-    laid-whole L.line_end line_end_7 (omega arith) (omega arith) c.requires.at_in_bounds (valued-laid c.byte-cap.ensures ⨾ c.join_end.ensures)
+    laid-whole L.line_end line_end_7 (omega arith) (omega arith) c.args.here.inside (valued-laid c.byte-cap.ensures ⨾ c.join_end.ensures)
