@@ -1,4 +1,4 @@
-// The layout in code, from a file's bytes to a table's words: paths, texts, bitmaps, texts along paths, and what ends every object.
+// The layout in code, over any way: paths, texts, bitmaps, texts along paths, and what ends every object.
 #![tactic(auto)]
 
 pub mod bitmap;

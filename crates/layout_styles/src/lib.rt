@@ -1,4 +1,4 @@
-// The layout in code, from a file's bytes to a table's words: paints, markers, line styles, settings.
+// The layout in code, over any way: paints, markers, line styles, settings.
 #![tactic(auto)]
 
 pub mod line_style;

@@ -1,6 +1,5 @@
 // Paints: plain ones, and gradients of two plain ones. The letter and the components of a colour are a group.
 ghost use Rattle.std.specs.Prelude.{◌≡◌, true, ◌&&◌, ◌+◌, ◌*◌, ◌^◌, ◌<◌, ◌≤◌, [], ◌∷◌, eqb, leb, length};
-ghost use Rattle.format.specs.Digits.{Below};
 ghost use Rattle.format.specs.Kind.{Allowed};
 ghost use Rattle.format.specs.Layout.{field, repeat, ◌&◌};
 ghost use Rattle.drawing.specs.Fields as F;
@@ -93,30 +92,7 @@ fn hsb<W: Way>(src: &[W::Unit], dst: &mut [W::Kept], at: usize, to: usize) -> Pa
     each::<W>(&*src, dst, at, to, Group::Hsb)
 }
 
-// From 1.4 on.
-fn newer<W: Way>(
-    src: &[W::Unit],
-    dst: &mut [W::Kept],
-    at: usize,
-    to: usize,
-    version: u32,
-    letter: u64,
-) -> Pass
-    requires begins { Begins (W.units src.now) at to }
-    requires way_in_bounds { (at + source_units W.way 2 ≤ length (W.units src.now)) × (letter ≡ value_at W.way 2 (W.units src.now) at) × (4 ≤ version) × (letter ≡ 84 → ⊥) × (letter ≡ 82 → ⊥) × (letter ≡ 67 → ⊥) }
-    requires below { Below W.way.source.base (W.units src.now) }
-    ensures { PlainLed W.way version (W.units src.now) (W.kept dst.old) (W.kept dst.new) at to result }
-{
-    if letter == GREY {
-        return color::<W>(&*src, dst, at, to, 2);
-    }
-    if letter == HSB {
-        return hsb::<W>(&*src, dst, at, to);
-    }
-    W::refusal(BAD_CHAR, at)
-}
-
-// A plain paint, of which the letter is there.
+// A plain paint, of which the letter is there. Grey and a hue are from 1.4 on.
 fn plain<W: Way>(src: &[W::Unit], dst: &mut [W::Kept], at: usize, to: usize, version: u32) -> Pass
     requires begins { Begins (W.units src.now) at to }
     requires way_in_bounds { at + source_units W.way 2 ≤ length (W.units src.now) }
@@ -135,7 +111,13 @@ fn plain<W: Way>(src: &[W::Unit], dst: &mut [W::Kept], at: usize, to: usize, ver
     if version < V1_4 {
         return W::refusal(BAD_CHAR, at);
     }
-    newer::<W>(&*src, dst, at, to, version, letter)
+    if letter == GREY {
+        return color::<W>(&*src, dst, at, to, 2);
+    }
+    if letter == HSB {
+        return hsb::<W>(&*src, dst, at, to);
+    }
+    W::refusal(BAD_CHAR, at)
 }
 
 pub fn plain_paint<W: Way>(

@@ -1,4 +1,4 @@
-use Rattle.ways.specs.PaintLaws.{letter_fault, transparent_led, rgb-led, cmyk_led, plain-refused, no_letter}
+use Rattle.ways.specs.PaintLaws.{letter_fault, transparent_led, rgb-led, cmyk_led, grey-led, hsb-led, plain-refused, no_letter}
 use Rattle.ways.specs.Moves.{led, moved_ready}
 use Rattle.ways.specs.LayoutLaws.{nothing-laid}
 use lib.ListN.{length}
@@ -28,3 +28,17 @@ returns-then-letter-eq-CMYK g c =
 pub returns-then-version-lt-V1_4 : goal.returns-then-version-lt-V1_4
 returns-then-version-lt-V1_4 g c =
     plain-refused c.args.version c.get-letter.ensures.below c.requires.begins c.requires.way_in_bounds (ap (letter_fault c.args.version) (sym c.get-letter.ensures.value.0) ∙ no_letter c.args.version c.get-letter.result c.if-letter-eq-TRANSPARENT.false c.if-letter-eq-RGB.false c.if-letter-eq-CMYK.false (λ new. absurd (omega (arith, new, c.if-version-lt-V1_4.true)))) c.refusal.ensures
+
+pub returns-then-letter-eq-GREY : goal.returns-then-letter-eq-GREY
+returns-then-letter-eq-GREY g c =
+    let is : value_at g.W.Way.way 2 (g.W.Way.units c.args.src.now) c.args.at ≡ 89 = sym c.get-letter.ensures.value.0 ∙ c.if-letter-eq-GREY.true in
+    grey-led c.args.version (omega (arith, c.if-version-lt-V1_4.false)) is c.color-then-letter-eq-GREY.ensures
+
+pub returns-then-letter-eq-HSB : goal.returns-then-letter-eq-HSB
+returns-then-letter-eq-HSB g c =
+    let is : value_at g.W.Way.way 2 (g.W.Way.units c.args.src.now) c.args.at ≡ 83 = sym c.get-letter.ensures.value.0 ∙ c.if-letter-eq-HSB.true in
+    hsb-led c.args.version (omega (arith, c.if-version-lt-V1_4.false)) is c.hsb.ensures
+
+pub returns : goal.returns
+returns g c =
+    plain-refused c.args.version c.get-letter.ensures.below c.requires.begins c.requires.way_in_bounds (ap (letter_fault c.args.version) (sym c.get-letter.ensures.value.0) ∙ no_letter c.args.version c.get-letter.result c.if-letter-eq-TRANSPARENT.false c.if-letter-eq-RGB.false c.if-letter-eq-CMYK.false (λ new. (c.if-letter-eq-GREY.false, c.if-letter-eq-HSB.false))) c.refusal-2.ensures
