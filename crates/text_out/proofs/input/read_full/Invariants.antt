@@ -1,0 +1,9 @@
+-- `text_out::input::read_full` stays in the room, and ends.
+use Rattle.std.proofs.Common.{length, ◌-◌, ◌≤◌}
+use Rattle.text_out.proofs.input.read_full.Given as goal
+
+abbrev pub invariant-loop-done : goal.invariant-loop-done
+invariant-loop-done g l = l.done ≤ length l.room
+
+abbrev pub decreases-loop-done : goal.decreases-loop-done
+decreases-loop-done g l = length l.room - l.done
