@@ -45,13 +45,13 @@ pub fn with(sum: u32, word: u32) -> u32
 
 // The hash of the words before and these.
 pub fn with_all<T: Word>(sum: u32, words: &[T]) -> u32
-    ensures { result ≡ hash_from T.word sum words.now }
+    ensures { result ≡ hash_from sum (map T.word words.now) }
 {
-    words.iter().fold(sum, |sum, word| with(sum, word.word()))
+    words.iter().map(|word| word.word()).fold(sum, with)
 }
 
 pub fn of<T: Word>(words: &[T]) -> u32
-    ensures { result ≡ hash_of T.word words.now }
+    ensures { result ≡ hash_of (map T.word words.now) }
 {
     with_all(NONE, words)
 }
