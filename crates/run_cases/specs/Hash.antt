@@ -1,13 +1,12 @@
 -- The hash of words, each behind those before it.
-use Rattle.std.specs.Prelude.{◌≡◌, ℕ, ◌+◌, ◌*◌, ◌%◌, ◌<◌, ◌≤◌, List, [], ◌∷◌, length, drop, get_or}
+use Rattle.std.specs.Prelude.{◌≡◌, ℕ, ◌+◌, ◌*◌, ◌%◌, ◌<◌, ◌≤◌, List, length, drop, get_or, fold}
 use Rattle.std.proofs.Common.{ap, add-one, drop_of_length-le, drop-cons}
 
 abbrev pub hash_with : ℕ → ℕ → ℕ
 hash_with sum word = (sum * 16777619 + word) % 4294967296
 
 abbrev pub hash_from : ℕ → List ℕ → ℕ
-hash_from sum [] = sum
-hash_from sum (w ∷ ws) = hash_from (hash_with sum w) ws
+hash_from sum ws = fold hash_with sum ws
 
 -- From the hash of no words on.
 abbrev pub hash_of : List ℕ → ℕ

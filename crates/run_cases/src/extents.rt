@@ -1,65 +1,42 @@
 // Cases of `extent`: a data file is a table's, with the rows to ask about behind it.
-ghost use Rattle.std.specs.Prelude.{◌≤◌};
 
-use std::io::Stdout;
-use text_out::{Buffer, put, put_all, put_next, within};
+use crate::asked::put_rows;
+use crate::case::Case;
+use drawing::ExtentAnswer;
+use std::fmt;
+use text_out::TextOut;
 
-pub fn put_groups(
-    out: Stdout,
-    buffer: &mut Buffer,
-    used: usize,
-    contents: &[u32],
-    bodies: &[u32],
-    rows: &[u32],
-) -> usize
-    ensures { result ≤ 4096 }
-{
-    let mut at = within(used);
-    let mut i = 0;
-    while i < rows.len() {
-        at = put_row(out, buffer, at, contents, bodies, rows[i]);
-        i += 1;
-    }
-    at
+pub fn put_groups(out: &mut TextOut, case: Case<'_>) {
+    let Case {
+        contents,
+        bodies,
+        rest,
+    } = case;
+    put_rows(out, rest.iter().copied(), |row| {
+        Sides(jdr::extent(contents, bodies, row))
+    });
 }
 
 // The number of the answer, and the bits of the four sides.
-fn put_row(
-    out: Stdout,
-    buffer: &mut Buffer,
-    used: usize,
-    contents: &[u32],
-    bodies: &[u32],
-    row: u32,
-) -> usize
-    ensures { result ≤ 4096 }
-{
-    let used = put_all(out, buffer, used, b" ;");
-    let used = put_next(out, buffer, used, row);
-    let used = put(out, buffer, used, b':');
-    let answer = jdr::extent(contents, bodies, row);
-    let extent = answer.extent;
-    let used = put_next(out, buffer, used, answer.number);
-    let used = put_side(out, buffer, used, extent.left);
-    let used = put_side(out, buffer, used, extent.bottom);
-    let used = put_side(out, buffer, used, extent.right);
-    put_side(out, buffer, used, extent.top)
-}
+#[derive(Clone, Copy)]
+struct Sides(ExtentAnswer);
 
-// A space and sixteen digits.
-fn put_side(out: Stdout, buffer: &mut Buffer, used: usize, side: f64) -> usize
-    ensures { result ≤ 4096 }
-{
-    let used = put(out, buffer, used, b' ');
-    let mut digits = [0u8; 16];
-    hex::encode_to_slice(bits(side).to_be_bytes(), &mut digits).unwrap();
-    put_all(out, buffer, used, &digits)
+impl fmt::Display for Sides {
+    fn fmt<W: fmt::Write>(&self, f: &mut fmt::Formatter<W>) -> fmt::Result {
+        let ExtentAnswer { number, extent } = self.0;
+        write!(f, " {number}")?;
+        for side in [extent.left, extent.bottom, extent.right, extent.top] {
+            write!(f, " {:016x}", bits(side))?;
+        }
+        Ok(())
+    }
 }
 
 // No side is a NaN; one would have the bits of all NaNs here.
 fn bits(side: f64) -> u64 {
-    if side == side {
-        return f64::to_bits(side);
+    if side.is_nan() {
+        0x7FF8000000000000
+    } else {
+        side.to_bits()
     }
-    0x7FF8000000000000
 }

@@ -1,8 +1,37 @@
 // The hash of words, and of bytes as words.
-ghost use Rattle.std.specs.Prelude.{◌≡◌};
-ghost use Rattle.run_cases.specs.Hash.{hash_with, hash_of};
+ghost use Rattle.std.specs.Prelude.{◌≡◌, ℕ, map};
+ghost use Rattle.run_cases.specs.Hash.{hash_with, hash_from, hash_of};
 
-use crate::data::wide;
+// What lent memory is made of: words, or bytes, which are hashed as words.
+pub trait Word: Copy {
+    // What it holds before a call.
+    const FILL: Self;
+
+    ghost word: { Self → ℕ };
+
+    fn word(self) -> u32
+        ensures { result ≡ word self };
+}
+
+impl Word for u32 {
+    const FILL: u32 = 0xA5A5A5A5;
+
+    ghost word = { λ w. w };
+
+    fn word(self) -> u32 {
+        self
+    }
+}
+
+impl Word for u8 {
+    const FILL: u8 = 0xA5;
+
+    ghost word = { λ b. b };
+
+    fn word(self) -> u32 {
+        u32::from(self)
+    }
+}
 
 // The hash of no words.
 pub const NONE: u32 = 2166136261;
@@ -14,26 +43,15 @@ pub fn with(sum: u32, word: u32) -> u32
     ((sum as u64 * 16777619 + word as u64) % 4294967296) as u32
 }
 
-pub fn of_words(words: &[u32]) -> u32
-    ensures { result ≡ hash_of words.now }
+// The hash of the words before and these.
+pub fn with_all<T: Word>(sum: u32, words: &[T]) -> u32
+    ensures { result ≡ hash_from sum (map T.word words.now) }
 {
-    let mut sum = NONE;
-    let mut i = 0;
-    while i < words.len() {
-        sum = with(sum, words[i]);
-        i += 1;
-    }
-    sum
+    words.iter().map(|word| word.word()).fold(sum, with)
 }
 
-pub fn of_bytes(bytes: &[u8]) -> u32
-    ensures { result ≡ hash_of bytes.now }
+pub fn of<T: Word>(words: &[T]) -> u32
+    ensures { result ≡ hash_of (map T.word words.now) }
 {
-    let mut sum = NONE;
-    let mut i = 0;
-    while i < bytes.len() {
-        sum = with(sum, wide(bytes[i]));
-        i += 1;
-    }
-    sum
+    with_all(NONE, words)
 }

@@ -5,15 +5,22 @@
 
 ghost use Rattle.std.specs.Prelude.{◌≡◌, ◌≤◌, length, take};
 
+use call::{Call, NoCall};
+use case::Case;
+use cut::{cut_at, get_words};
 use std::fs::{File, Files};
-use std::io::{Read, Stdout};
-use text_out::{Buffer, put, put_all};
+use text_out::TextOut;
+use text_out::input::read_full;
 
-mod data;
+mod asked;
+mod call;
+mod case;
+mod cut;
 mod description;
 mod extents;
 mod group;
 mod hash;
+mod lent;
 mod list;
 mod read;
 mod row_questions;
@@ -24,10 +31,9 @@ mod tables;
 fn main(rt: HostRuntime) {
     let mut list = [0u8; 131072];
     let length = read_list(&rt, &mut list);
-    let out = rt.stdout();
-    let mut buffer = [0u8; 4096];
-    let used = put_cases(&rt, out, &mut buffer, &list[..length]);
-    text_out::flush(out, &buffer, used);
+    let mut out = TextOut::new(rt.stdout());
+    put_cases(&rt, &mut out, &list[..length]);
+    out.flush();
 }
 
 // No list is an empty one.
@@ -35,41 +41,34 @@ fn read_list<R: Files>(files: &R, list: &mut [u8]) -> usize
     ensures { (result ≤ length list.new) × (result ≡ length (take result list.new)) }
 {
     match File::open(files, "cases.txt") {
-        Ok(mut file) => data::read_full(&mut file, list),
+        Ok(mut file) => read_full(&mut file, list),
         Err(_) => 0,
     }
 }
 
 // A line of the list is a case's name, a space, and what the case is.
-fn put_cases<R: Files>(files: &R, out: Stdout, buffer: &mut Buffer, list: &[u8]) -> usize {
-    let mut used = 0;
-    let mut at = 0;
-    while at < list.len() {
-        let end = data::find(list, at, b' ');
-        used = put_case(files, out, buffer, used, &list[at..end]);
-        at = data::find(list, end, b'\n');
-        if at < list.len() {
-            at += 1;
-        }
+fn put_cases<R: Files>(files: &R, out: &mut TextOut, list: &[u8]) {
+    let mut rest = list;
+    while !rest.is_empty() {
+        let (name, line) = cut_at(rest, b' ');
+        put_case(files, out, name);
+        (_, rest) = cut_at(line, b'\n');
     }
-    used
 }
 
-fn put_case<R: Files>(
-    files: &R,
-    out: Stdout,
-    buffer: &mut Buffer,
-    used: usize,
-    name: &[u8],
-) -> usize {
-    let used = put_all(out, buffer, used, name);
+fn put_case<R: Files>(files: &R, out: &mut TextOut, name: &[u8]) {
+    out.put_all(name);
     match open(files, name) {
         Some(mut file) => {
-            let used = put_file(out, buffer, used, name, &mut file);
-            put(out, buffer, used, b'\n')
+            // It holds two counts, any table that the reader fills, and a label.
+            let mut room = [0u8; 416000];
+            let length = read_full(&mut file, &mut room);
+            let (call, _) = cut_at(name, b'/');
+            put_call(out, Call::try_from(call), &room[..length]);
         }
-        None => put_all(out, buffer, used, b" does not open\n"),
+        None => out.put_all(b" does not open"),
     }
+    out.put(b'\n');
 }
 
 // The names of files are UTF-8 text.
@@ -78,88 +77,34 @@ fn open<R: Files>(files: &R, name: &[u8]) -> Option<R::File> {
     File::open(files, path).ok()
 }
 
-// The room holds two counts, any table that the reader fills, and a label.
-fn put_file<F: Read>(
-    out: Stdout,
-    buffer: &mut Buffer,
-    used: usize,
-    name: &[u8],
-    file: &mut F,
-) -> usize {
-    let mut room = [0u8; 416000];
-    put_read(out, buffer, used, name, file, &mut room)
+// The calls that take bytes; all others take words.
+fn put_call(out: &mut TextOut, call: Result<Call, NoCall>, file: &[u8]) {
+    match call {
+        Ok(Call::Read) => read::put_groups(out, file, jdr::read),
+        Ok(Call::SheetRead) => read::put_groups(out, file, jdr::sheet_read),
+        _ => put_words_call(out, call, file),
+    }
 }
 
-fn put_read<F: Read>(
-    out: Stdout,
-    buffer: &mut Buffer,
-    used: usize,
-    name: &[u8],
-    file: &mut F,
-    room: &mut [u8],
-) -> usize {
-    let length = data::read_full(file, room);
-    let call = data::find(name, 0, b'/');
-    put_call(out, buffer, used, &name[0..call], &room[0..length])
+// Those of a session take the words and the file; all others take a table.
+fn put_words_call(out: &mut TextOut, call: Result<Call, NoCall>, file: &[u8]) {
+    let mut room = [0u32; 104000];
+    let count = get_words(file, &mut room);
+    let words = &room[..count];
+    match (call, Case::of(words)) {
+        (Ok(Call::Session), _) => sessions::put_groups(out, words, file),
+        (_, Some(case)) => put_table_call(out, call, case),
+        (_, None) => out.put_all(b" has no table"),
+    }
 }
 
-// The calls that take bytes, and those of a session; all others take a table.
-fn put_call(out: Stdout, buffer: &mut Buffer, used: usize, call: &[u8], file: &[u8]) -> usize {
-    if call == b"read".as_slice() {
-        return read::put_groups(out, buffer, used, false, file);
+fn put_table_call(out: &mut TextOut, call: Result<Call, NoCall>, case: Case<'_>) {
+    match call {
+        Ok(Call::Table) => tables::put_groups(out, case),
+        Ok(Call::SheetWrite) => sheet::put_groups(out, case),
+        Ok(Call::List) => list::put_groups(out, case),
+        Ok(Call::Box) => extents::put_groups(out, case),
+        Ok(Call::Description) => description::put_groups(out, case),
+        _ => out.put_all(b" is a case of no call"),
     }
-    if call == b"sheet_read".as_slice() {
-        return read::put_groups(out, buffer, used, true, file);
-    }
-    let mut words = [0u32; 104000];
-    let count = data::get_words(file, &mut words);
-    if call == b"session".as_slice() {
-        return sessions::put_groups(out, buffer, used, &words[..count], file);
-    }
-    put_table(out, buffer, used, call, &words[..count])
-}
-
-// The words of a table's file are the numbers of contents words and bodies words, the contents, the bodies, and what else the call takes.
-fn put_table(out: Stdout, buffer: &mut Buffer, used: usize, call: &[u8], words: &[u32]) -> usize {
-    if words.len() < 2 {
-        return put_all(out, buffer, used, b" has no table");
-    }
-    let bodies = data::end_of_run(2, words[0], words.len());
-    let rest = data::end_of_run(bodies, words[1], words.len());
-    put_table_call(
-        out,
-        buffer,
-        used,
-        call,
-        &words[2..bodies],
-        &words[bodies..rest],
-        &words[rest..],
-    )
-}
-
-fn put_table_call(
-    out: Stdout,
-    buffer: &mut Buffer,
-    used: usize,
-    call: &[u8],
-    contents: &[u32],
-    bodies: &[u32],
-    rest: &[u32],
-) -> usize {
-    if call == b"table".as_slice() {
-        return tables::put_groups(out, buffer, used, contents, bodies);
-    }
-    if call == b"sheet_write".as_slice() {
-        return sheet::put_groups(out, buffer, used, contents, bodies);
-    }
-    if call == b"list".as_slice() {
-        return list::put_groups(out, buffer, used, contents, bodies, rest);
-    }
-    if call == b"box".as_slice() {
-        return extents::put_groups(out, buffer, used, contents, bodies, rest);
-    }
-    if call == b"description".as_slice() {
-        return description::put_groups(out, buffer, used, contents, bodies, rest);
-    }
-    put_all(out, buffer, used, b" is a case of no call")
 }

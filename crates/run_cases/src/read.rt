@@ -1,116 +1,52 @@
-// Cases of `read`, whose data file is a drawing's file, and of `sheet_read`, whose data file is a sheet.
-ghost use Rattle.std.specs.Prelude.{◌≤◌};
+// Cases of `read`, whose data file is a drawing's file, and of `sheet_read`, whose data file is a sheet: a reader is either.
 
-use crate::data::least;
-use crate::group::{FILL, Group, one_less, put_answer, put_hash};
+use crate::group::Group;
 use crate::hash;
+use crate::hash::Word;
 use drawing::Answer;
-use std::io::Stdout;
-use text_out::Buffer;
+use std::fmt::Write;
+use text_out::TextOut;
 
 // The call with large rooms; and for what is accepted with rooms for its table and a part of a row more, a row short and a word short.
-pub fn put_groups(out: Stdout, buffer: &mut Buffer, used: usize, sheet: bool, file: &[u8]) -> usize
-    ensures { result ≤ 4096 }
-{
-    let first = put_group(out, buffer, used, sheet, file, 37452, 65536);
-    let answer = first.answer;
-    if answer.number != 0 {
-        return first.used;
-    }
-    put_tight_groups(
-        out,
-        buffer,
-        first.used,
-        sheet,
-        file,
-        answer.rows,
-        answer.words,
-    )
-}
-
-fn put_tight_groups(
-    out: Stdout,
-    buffer: &mut Buffer,
-    used: usize,
-    sheet: bool,
+pub fn put_groups<F: Fn(&[u8], &mut [u32], &mut [u32]) -> Answer>(
+    out: &mut TextOut,
     file: &[u8],
-    rows: u32,
-    words: u32,
-) -> usize
-    ensures { result ≤ 4096 }
+    read: F,
+)
+    requires { F.IsAlwaysCallable read }
 {
-    let contents = 4 * rows as usize;
-    let bodies = words as usize;
-    let over = put_group(out, buffer, used, sheet, file, contents + 3, bodies);
-    let short = put_group(
-        out,
-        buffer,
-        over.used,
-        sheet,
-        file,
-        one_less(contents),
-        bodies,
-    );
-    let last = put_group(
-        out,
-        buffer,
-        short.used,
-        sheet,
-        file,
-        contents,
-        one_less(bodies),
-    );
-    last.used
+    let answer = put_group(out, file, &read, 37452, 65536);
+    if answer.number != 0 {
+        return;
+    }
+    let contents = 4 * answer.rows as usize;
+    let bodies = answer.words as usize;
+    put_group(out, file, &read, contents + 3, bodies);
+    put_group(out, file, &read, contents.saturating_sub(1), bodies);
+    put_group(out, file, &read, contents, bodies.saturating_sub(1));
 }
 
 // One call with rooms of so many words. The contents' run has three words more than the large room: a part of a row.
-fn put_group(
-    out: Stdout,
-    buffer: &mut Buffer,
-    used: usize,
-    sheet: bool,
+fn put_group<F: Fn(&[u8], &mut [u32], &mut [u32]) -> Answer>(
+    out: &mut TextOut,
     file: &[u8],
+    read: &F,
     contents_room: usize,
     bodies_room: usize,
-) -> Group
-    ensures { result.used ≤ 4096 }
+) -> Answer
+    requires { F.IsAlwaysCallable read.now }
 {
-    let mut contents = [FILL; 37455];
-    let mut bodies = [FILL; 65536];
-    let contents_end = least(contents_room, 37455);
-    let bodies_end = least(bodies_room, 65536);
-    put_call(
+    let mut contents = [u32::FILL; 37455];
+    let mut bodies = [u32::FILL; 65536];
+    let contents = &mut contents[..contents_room.min(37455)];
+    let bodies = &mut bodies[..bodies_room.min(65536)];
+    let answer = read(file, contents, bodies);
+    let _ = write!(
         out,
-        buffer,
-        used,
-        sheet,
-        file,
-        &mut contents[0..contents_end],
-        &mut bodies[0..bodies_end],
-    )
-}
-
-fn called(sheet: bool, file: &[u8], contents: &mut [u32], bodies: &mut [u32]) -> Answer {
-    if sheet {
-        return jdr::sheet_read(file, contents, bodies);
-    }
-    jdr::read(file, contents, bodies)
-}
-
-fn put_call(
-    out: Stdout,
-    buffer: &mut Buffer,
-    used: usize,
-    sheet: bool,
-    file: &[u8],
-    contents: &mut [u32],
-    bodies: &mut [u32],
-) -> Group
-    ensures { result.used ≤ 4096 }
-{
-    let answer = called(sheet, file, contents, bodies);
-    let used = put_answer(out, buffer, used, answer);
-    let used = put_hash(out, buffer, used, hash::of_words(contents));
-    let used = put_hash(out, buffer, used, hash::of_words(bodies));
-    Group { answer, used }
+        "{} {:08x} {:08x}",
+        Group(answer),
+        hash::of(contents),
+        hash::of(bodies)
+    );
+    answer
 }

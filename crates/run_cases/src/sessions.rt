@@ -2,262 +2,170 @@
 // the file.
 ghost use Rattle.std.specs.Prelude.{◌≤◌};
 
-use crate::data::{end_of_run, least};
-use crate::group::{FILL, put_answer, put_hash};
+use crate::cut::cut_run;
+use crate::group::Group;
 use crate::hash;
+use crate::hash::Word;
 use drawing::Answer;
 use jdr::Session;
 use session::piece::pieced;
 use session::verdict::{Taken, judged, opened};
-use std::io::Stdout;
-use text_out::{Buffer, put_all, put_next};
+use std::fmt::Write;
+use text_out::TextOut;
 
 const NO_SESSION: u32 = 22;
 
-pub fn put_groups(
-    out: Stdout,
-    buffer: &mut Buffer,
-    used: usize,
-    words: &[u32],
-    data: &[u8],
-) -> usize
-    ensures { result ≤ 4096 }
-{
-    if words.len() < 4 {
-        return put_all(out, buffer, used, b" has no session");
-    }
-    let cuts = end_of_run(4, words[3], words.len());
-    let file = file_start(words[3], data.len());
-    put_sessions(
-        out,
-        buffer,
-        used,
-        made_up(words[0], words[1]),
-        words[2],
-        &words[4..cuts],
-        &data[file..],
-    )
+pub fn put_groups(out: &mut TextOut, words: &[u32], data: &[u8]) {
+    let [depth, bytes, middle, count, rest @ ..] = words else {
+        out.put_all(b" has no session");
+        return;
+    };
+    let (cuts, _) = cut_run(rest, *count);
+    // The file stands behind four words and the cuts.
+    let start = (16 + 4 * *count as usize).min(data.len());
+    put_sessions(out, made_up(*depth, *bytes), *middle, cuts, &data[start..]);
 }
 
-// The file stands behind four words and the cuts.
-fn file_start(cuts: u32, all: usize) -> usize
-    ensures { result ≤ all }
-{
-    least(16 + 4 * cuts as usize, all)
+// The file in pieces; then what comes behind a verdict. The session opened again, with the verdict in the middle of the file. At last the made-up session itself.
+// The calls are made by value, as those on a session that is lent make them.
+fn put_sessions(out: &mut TextOut, lent: Session, middle: u32, cuts: &[u32], file: &[u8]) {
+    let whole = Given::open(lent).pieces(cuts, file);
+    whole.put_verdict(out);
+    let spent = judged(whole.session).session;
+    put_spent(out, spent, cuts, file);
+    let (front, back) = file.split_at(file.len().min(middle as usize));
+    let half = Given::open(spent).pieces(cuts, front);
+    half.put_verdict(out);
+    put_spent(out, judged(half.session).session, cuts, back);
+    put_made_up(out, lent, pieced(lent, file));
+    put_made_up(out, lent, judged(lent));
+}
+
+// A session that is spent: the verdict behind more pieces, and 1 if they left it as it was.
+fn put_spent(out: &mut TextOut, spent: Session, cuts: &[u32], file: &[u8]) {
+    let given = Given {
+        session: spent,
+        sum: hash::NONE,
+    };
+    let after = given.pieces(cuts, file);
+    after.put_verdict(out);
+    let _ = write!(out, " {}", is_same(spent, after.session));
+}
+
+// A session that opening did not begin, and what a call made of it. Where it was refused: the answer, and 1 if the session is as it was. Nothing else is
+// promised of it.
+fn put_made_up(out: &mut TextOut, before: Session, taken: Taken) {
+    let Taken { session, answer } = taken;
+    if answer.number != NO_SESSION {
+        out.put_all(b" ; -");
+        return;
+    }
+    let _ = write!(out, "{} {}", Group(answer), is_same(before, session));
 }
 
 // A session behind some pieces, and the hash of what the calls answered.
-#[derive(Drop)]
+#[derive(Clone, Copy)]
 struct Given {
     session: Session,
     sum: u32,
 }
 
-// The file in pieces; then what comes behind a verdict. The session opened again, with the verdict in the middle of the file. At last the made-up session itself.
-// The calls are made by value, as those on a session that is lent make them.
-fn put_sessions(
-    out: Stdout,
-    buffer: &mut Buffer,
-    used: usize,
-    lent: Session,
-    middle: u32,
-    cuts: &[u32],
-    file: &[u8],
-) -> usize
-    ensures { result ≤ 4096 }
-{
-    let first = open_and_give(lent, cuts, file);
-    let whole = first.session;
-    let used = put_verdict(out, buffer, used, whole, first.sum);
-    let spent = after_verdict(whole);
-    let used = put_spent(out, buffer, used, spent, cuts, file);
-    let used = put_half(out, buffer, used, spent, middle, cuts, file);
-    let used = put_made_up(out, buffer, used, lent, pieced(lent, file));
-    put_made_up(out, buffer, used, lent, judged(lent))
-}
-
-// A spent session is opened again, with the verdict in the middle of the file.
-fn put_half(
-    out: Stdout,
-    buffer: &mut Buffer,
-    used: usize,
-    spent: Session,
-    middle: u32,
-    cuts: &[u32],
-    file: &[u8],
-) -> usize
-    ensures { result ≤ 4096 }
-{
-    let half = least(middle as usize, file.len());
-    let front = &file[0..half];
-    let back = &file[half..];
-    let given = open_and_give(spent, cuts, front);
-    let begun = given.session;
-    let used = put_verdict(out, buffer, used, begun, given.sum);
-    put_spent(out, buffer, used, after_verdict(begun), cuts, back)
-}
-
-// A session that is opened, whatever it holds, and given a file.
-fn open_and_give(lent: Session, cuts: &[u32], file: &[u8]) -> Given {
-    let begun = opened(lent);
-    let session = begun.session;
-    let answer = begun.answer;
-    give(session, with_answer(hash::NONE, answer), cuts, file)
-}
-
-fn after_verdict(session: Session) -> Session {
-    let taken = judged(session);
-    let after = taken.session;
-    after
-}
-
-// A session that is spent: the verdict behind more pieces, and 1 if they left it as it was.
-fn put_spent(
-    out: Stdout,
-    buffer: &mut Buffer,
-    used: usize,
-    spent: Session,
-    cuts: &[u32],
-    file: &[u8],
-) -> usize
-    ensures { result ≤ 4096 }
-{
-    let given = give(spent, hash::NONE, cuts, file);
-    let after = given.session;
-    let used = put_verdict(out, buffer, used, after, given.sum);
-    put_next(out, buffer, used, is_same(holds(spent), holds(after)))
-}
-
-fn put_verdict(out: Stdout, buffer: &mut Buffer, used: usize, session: Session, sum: u32) -> usize
-    ensures { result ≤ 4096 }
-{
-    let taken = judged(session);
-    let answer = taken.answer;
-    let used = put_answer(out, buffer, used, answer);
-    put_hash(out, buffer, used, sum)
-}
-
-// The pieces of the file between the cuts: the hash of what they answer, and of what is before them.
-fn give(session: Session, before: u32, cuts: &[u32], file: &[u8]) -> Given {
-    let mut now = session;
-    let mut sum = before;
-    let mut at = 0;
-    let mut i = 0;
-    while i < cuts.len() {
-        let end = cut_at(at, cuts[i], file.len());
-        let taken = pieced(now, &file[at..end]);
-        let answer = taken.answer;
-        sum = with_answer(sum, answer);
-        now = taken.session;
-        at = end;
-        i += 1;
+impl Given {
+    // A session that is opened, whatever it holds.
+    fn open(lent: Session) -> Given {
+        let Taken { session, answer } = opened(lent);
+        Given {
+            session,
+            sum: with_answer(hash::NONE, answer),
+        }
     }
-    let last = pieced(now, &file[at..]);
-    let after = last.session;
-    let answer = last.answer;
-    Given {
-        session: after,
-        sum: with_answer(sum, answer),
-    }
-}
 
-// Where a piece ends that begins here: at the cut, but not before its own beginning and not behind the end.
-fn cut_at(start: usize, cut: u32, all: usize) -> usize
-    requires { start ≤ all }
-    ensures { (start ≤ result) × (result ≤ all) }
-{
-    let place = cut as usize;
-    if place < start {
-        return start;
+    fn piece(self, bytes: &[u8]) -> Given {
+        let Taken { session, answer } = pieced(self.session, bytes);
+        Given {
+            session,
+            sum: with_answer(self.sum, answer),
+        }
     }
-    if all < place {
-        return all;
-    }
-    place
-}
 
-// A session that opening did not begin, and what a call made of it. Where it was refused: the answer, and 1 if the session is as it was. Nothing else is
-// promised of it.
-fn put_made_up(
-    out: Stdout,
-    buffer: &mut Buffer,
-    used: usize,
-    before: Session,
-    taken: Taken,
-) -> usize
-    ensures { result ≤ 4096 }
-{
-    let answer = taken.answer;
-    let after = taken.session;
-    if answer.number != NO_SESSION {
-        return put_all(out, buffer, used, b" ; -");
+    // The pieces of the file between the cuts. A piece ends at its cut, but not before its own beginning and not behind the end.
+    fn pieces(self, cuts: &[u32], file: &[u8]) -> Given {
+        let mut given = self;
+        let mut start = 0;
+        for cut in cuts {
+            let end = (*cut as usize).clamp(start, file.len());
+            given = given.piece(&file[start..end]);
+            start = end;
+        }
+        given.piece(&file[start..])
     }
-    let used = put_answer(out, buffer, used, answer);
-    put_next(out, buffer, used, is_same(holds(before), holds(after)))
-}
 
-fn is_same(one: u32, other: u32) -> u32 {
-    if one == other {
-        return 1;
+    fn put_verdict(self, out: &mut TextOut) {
+        let answer = judged(self.session).answer;
+        let _ = write!(out, "{} {:08x}", Group(answer), self.sum);
     }
-    0
 }
 
 fn with_answer(sum: u32, answer: Answer) -> u32 {
-    let sum = hash::with(sum, answer.number);
-    let sum = hash::with(sum, answer.offset);
-    let sum = hash::with(sum, answer.rows);
-    hash::with(sum, answer.words)
+    hash::with_all(
+        sum,
+        &[answer.number, answer.offset, answer.rows, answer.words],
+    )
 }
 
 // Every other number of it is 0xA5 in every byte.
 fn made_up(depth: u32, bytes: u32) -> Session {
     Session {
-        spent: FILL,
+        spent: u32::FILL,
         depth,
         bytes,
-        number: FILL,
-        offset: FILL,
-        rows: FILL,
-        words: FILL,
-        version: FILL,
-        stage: FILL,
-        width: FILL,
-        segments: FILL,
-        held: FILL,
+        number: u32::FILL,
+        offset: u32::FILL,
+        rows: u32::FILL,
+        words: u32::FILL,
+        version: u32::FILL,
+        stage: u32::FILL,
+        width: u32::FILL,
+        segments: u32::FILL,
+        held: u32::FILL,
         parts: 0xA5A5A5A5A5A5A5A5,
         run: 0xA5A5A5A5A5A5A5A5,
         x: 0xA5A5A5A5A5A5A5A5,
         y: 0xA5A5A5A5A5A5A5A5,
-        members: [FILL; 16],
-        buffer: [0xA5; 184],
+        members: [u32::FILL; 16],
+        buffer: [u8::FILL; 184],
     }
+}
+
+// 1 if two sessions hold the same, as far as their hashes tell.
+fn is_same(one: Session, other: Session) -> u32 {
+    u32::from(holds(one) == holds(other))
 }
 
 // The hash of all that a session holds.
 fn holds(session: Session) -> u32 {
-    let members = session.members;
-    let buffer = session.buffer;
-    let sum = hash::with(hash::of_words(&members), hash::of_bytes(&buffer));
-    let sum = hash::with(sum, session.spent);
-    let sum = hash::with(sum, session.depth);
-    let sum = hash::with(sum, session.bytes);
-    let sum = hash::with(sum, session.number);
-    let sum = hash::with(sum, session.offset);
-    let sum = hash::with(sum, session.rows);
-    let sum = hash::with(sum, session.words);
-    let sum = hash::with(sum, session.version);
-    let sum = hash::with(sum, session.stage);
-    let sum = hash::with(sum, session.width);
-    let sum = hash::with(sum, session.segments);
-    let sum = hash::with(sum, session.held);
-    let sum = with_wide(sum, session.parts);
-    let sum = with_wide(sum, session.run);
-    let sum = with_wide(sum, session.x);
-    with_wide(sum, session.y)
+    let sum = hash::with(hash::of(&session.members), hash::of(&session.buffer));
+    let words = [
+        session.spent,
+        session.depth,
+        session.bytes,
+        session.number,
+        session.offset,
+        session.rows,
+        session.words,
+        session.version,
+        session.stage,
+        session.width,
+        session.segments,
+        session.held,
+    ];
+    let wide = [session.parts, session.run, session.x, session.y];
+    wide.iter().fold(hash::with_all(sum, &words), with_wide)
 }
 
-fn with_wide(sum: u32, number: u64) -> u32 {
-    let sum = hash::with(sum, (number / 4294967296) as u32);
-    hash::with(sum, (number % 4294967296) as u32)
+// The high word, and the low one.
+fn with_wide(sum: u32, number: &u64) -> u32 {
+    let high = (*number >> 32) as u32;
+    let low = (*number % 4294967296) as u32;
+    hash::with_all(sum, &[high, low])
 }

@@ -1,71 +1,71 @@
-// Standard output gathered in a buffer, so that many short pieces are written by few calls. The buffer and how much of it
-// is used are the caller's: each call takes both, and answers how much is used after it, which is never more than there is.
-// What a call writes out goes to the standard output that it is given. A write that fails is let go, and what it was to write
-// is lost.
+// What the programs share: standard output gathered in a buffer, and the reading of an input as far as there is room.
 #![tactic(auto)]
 
-ghost use Rattle.std.specs.Prelude.{◌≡◌, ◌≤◌};
+ghost use Rattle.std.specs.Prelude.{◌≡◌, ◌≤◌, [], IsOk};
+ghost use Rattle.arrayvec.specs.ArrayVec.{array_vec_len};
+ghost use Rattle.text_out.specs.Held.{held_after, held_after_all};
 
+use arrayvec::ArrayVec;
+use std::fmt;
 use std::io::{Print, Stdout};
 
-// 4,096 bytes, as many as are written at once.
-pub type Buffer = [u8; 4096];
+pub mod input;
 
-// A full buffer is written out and begins again.
-pub fn put(out: Stdout, buffer: &mut Buffer, used: usize, byte: u8) -> usize
-    ensures { result ≤ 4096 }
-{
-    if used < 4096 {
-        buffer[used] = byte;
-        return used + 1;
+// Gathers what is put into it, so that many short pieces are written by few calls: 4,096 bytes are written at once. What it
+// writes goes to the standard output that it is made with. A write that fails is let go, and what it was to write is lost.
+#[derive(Drop)]
+pub struct TextOut {
+    out: Stdout,
+    held: ArrayVec<u8, 4096>,
+    ghost fits: { array_vec_len held ≤ 4096 },
+}
+
+impl TextOut {
+    pub fn new(out: Stdout) -> Self
+        ensures { result.held.items ≡ [] }
+    {
+        TextOut {
+            out,
+            held: ArrayVec::new(),
+        }
     }
-    let begun = flush(out, buffer, used);
-    buffer[begun] = byte;
-    begun + 1
-}
 
-// As much as there is, where more is said to be used.
-pub fn within(used: usize) -> usize
-    ensures { result ≤ 4096 }
-{
-    if 4096 < used {
-        return 4096;
+    // A full buffer is written out and begins again.
+    pub fn put(&mut self, byte: u8)
+        ensures { self.new.held.items ≡ held_after self.old.held.items byte }
+    {
+        if self.held.is_full() {
+            self.flush();
+        }
+        self.held.push(byte);
     }
-    used
-}
 
-pub fn put_all(out: Stdout, buffer: &mut Buffer, used: usize, bytes: &[u8]) -> usize
-    ensures { result ≤ 4096 }
-{
-    let mut at = within(used);
-    let mut i = 0;
-    while i < bytes.len() {
-        at = put(out, buffer, at, bytes[i]);
-        i += 1;
+    pub fn put_all(&mut self, bytes: &[u8])
+        ensures { self.new.held.items ≡ held_after_all self.old.held.items bytes.now }
+    {
+        for byte in bytes {
+            self.put(*byte);
+        }
     }
-    at
+
+    // Writes out what is held. Nothing is held after that.
+    pub fn flush(&mut self)
+        ensures { self.new.held.items ≡ [] }
+    {
+        let _ = self.out.write_all(self.held.as_slice());
+        self.held.clear();
+    }
 }
 
-pub fn put_decimal(out: Stdout, buffer: &mut Buffer, used: usize, number: u32) -> usize
-    ensures { result ≤ 4096 }
-{
-    let mut digits = itoa::Buffer::new();
-    put_all(out, buffer, used, digits.format(number).as_bytes())
-}
+// What `write!` writes is put. That never fails, so what `write!` answers of it may be let go.
+impl fmt::Write for TextOut {
+    ghost write_str_gives = { λ old bytes new. new.held.items ≡ held_after_all old.held.items bytes };
 
-// A space and a number.
-pub fn put_next(out: Stdout, buffer: &mut Buffer, used: usize, number: u32) -> usize
-    ensures { result ≤ 4096 }
-{
-    let used = put(out, buffer, used, b' ');
-    put_decimal(out, buffer, used, number)
-}
-
-// Writes out what is in the buffer. Nothing of it is used after that.
-pub fn flush(out: Stdout, buffer: &Buffer, used: usize) -> usize
-    ensures { result ≡ 0 }
-{
-    let whole: &[u8] = buffer;
-    let _ = out.write_all(&whole[0..within(used)]);
-    0
+    fn write_str(&mut self, text: &str) -> fmt::Result
+        ensures ok { IsOk result → self.new.held.items ≡ held_after_all self.old.held.items text.now }
+        ensures never_fails { IsOk result }
+    {
+        self.put_all(text.as_bytes());
+        Ok(())
+    }
 }

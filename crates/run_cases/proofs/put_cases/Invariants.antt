@@ -1,9 +1,6 @@
--- `run_cases::put_cases` stays in the list of cases, and ends.
-use Rattle.std.proofs.Common.{length, ◌-◌, ◌≤◌}
+-- `run_cases::put_cases` ends at the end of the list of cases.
+use Rattle.std.proofs.Common.{length}
 use Rattle.run_cases.proofs.put_cases.Given as goal
 
-abbrev pub invariant-loop-at : goal.invariant-loop-at
-invariant-loop-at g l = l.at ≤ length l.list
-
-abbrev pub decreases-loop-at : goal.decreases-loop-at
-decreases-loop-at g l = length l.list - l.at
+abbrev pub decreases-loop-rest : goal.decreases-loop-rest
+decreases-loop-rest g l = length l.rest

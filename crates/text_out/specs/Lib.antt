@@ -1,0 +1,2 @@
+-- What the buffer of the programs' output holds.
+pub mod Held
