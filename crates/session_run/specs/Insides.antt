@@ -29,6 +29,7 @@ use Rattle.pieces.specs.Parts.{any_of, part_then, parts_on, inside}
 use Rattle.pieces.specs.PartLaws.{with_parts, next_part, is_dashes, is_string, is_words, is_latex, is_latex_along, is_links, is_outline, is_count, is_segment, is_first, is_joined, is_end_x, is_end_y}
 use Rattle.pieces.specs.LeafLaws.{text-flag, along_flag, links_flag}
 use Rattle.pieces.specs.OutlineLaws.{segments_from, outline-parts, count_old, count_new, free_letter, first_letter, joined_letter, end_x, end_y, dash_run}
+use Rattle.session_run.specs.declared.cursor.Cursor.{Cursor}
 use Rattle.session_run.specs.declared.cursor.Step.{Step}
 use Rattle.session_run.specs.Steps.{StepsTo, steps_same, steps_gone, steps_silent, field_steps}
 use Rattle.session_run.specs.Wholes.{PartWhole}
@@ -36,6 +37,10 @@ use Rattle.session_run.specs.Told.{Told, told-cut}
 
 pub record InsideSteps (v : ℕ) (s : Inside) (us : List ℕ) (at to : ℕ) (r : Step Inside) : Type 0 where
   pub steps : StepsTo (inside v s) (inside v r.left) us at to r.pass.at r.pass.to
+
+-- The same from a place in a file's bytes.
+abbrev pub InsideHere : (v : ℕ) → Inside → Cursor → Step Inside → Type 0
+InsideHere v s here r = InsideSteps v s here.src.now here.at here.to r
 
 -- No run comes before the next part, which is this one.
 pub record Next (s : Inside) (part : ℕ) : Type 0 where

@@ -30,6 +30,7 @@ use Rattle.pieces.specs.declared.Inside.{Inside}
 use Rattle.pieces.specs.Parts.{Standing, inside, groups, rest_at, rest}
 use Rattle.pieces.specs.PartLaws.{with_parts}
 use Rattle.pieces.specs.EntryLaws.{leaf_parts, none_inside, counting, among, rest-count, rest_ended, rest-alone, rest_nested, leaf_on_lem, group_on_lem, leaf_on, group_on}
+use Rattle.session_run.specs.declared.cursor.Cursor.{Cursor}
 use Rattle.session_run.specs.declared.cursor.Step.{Step}
 use Rattle.session_run.specs.declared.place.Place.{Place}
 use Rattle.session_run.specs.Steps.{StepsTo, steps_same, steps_gone, steps_end, steps_behind, layout_steps, field_steps}
@@ -51,6 +52,10 @@ pub record PlaceSteps (p : Place) (ms ms' us : List ℕ) (at to : ℕ) (r : Step
   pub sized : length ms' ≡ length ms
   pub sound : r.pass.at < refused → Sound r.left
   pub few-rows : r.left.rows ≤ p.rows + 1
+
+-- The same from a place in a file's bytes.
+abbrev pub PlaceHere : Place → (ms ms' : List ℕ) → Cursor → Step Place → Type 0
+PlaceHere p ms ms' here r = PlaceSteps p ms ms' here.src.now here.at here.to r
 
 -- Nothing is left of the object that is open.
 pub record Between (s : Inside) : Type 0 where
@@ -83,6 +88,9 @@ pub record HeadSteps (p : Place) (us : List ℕ) (at to : ℕ) (r : Step Place) 
   pub steps : (ms : List ℕ) → 0 < length ms → StepsTo (rest (standing_of p ms)) (rest (standing_of r.left ms)) us at to r.pass.at r.pass.to
   pub sound : r.pass.at < refused → Sound r.left
   pub few-rows : r.left.rows ≤ p.rows + 1
+
+abbrev pub HeadHere : Place → Cursor → Step Place → Type 0
+HeadHere p here r = HeadSteps p here.src.now here.at here.to r
 
 module _ (p : Place) {n : ℕ} (Stage-is : p.stage ≡ n) where
   -- What is left at this stage.

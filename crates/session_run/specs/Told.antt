@@ -18,6 +18,7 @@ use Rattle.reader.specs.OuterLaws.{outer_id}
 use Rattle.reader.specs.FieldsAt.{number_at, cut-here, fault_here, value_here}
 use Rattle.pieces.specs.Going.{room, goes_is}
 use Rattle.pieces.specs.FieldLaws.{field-goes, field_stops}
+use Rattle.session_run.specs.declared.cursor.Cursor.{Cursor}
 use Rattle.session_run.specs.Steps.{StepsTo}
 
 -- A field of this kind was judged: what follows goes on by its value.
@@ -29,6 +30,10 @@ pub record Told (R : Type 0) (k : Kind) (us : List ℕ) (at to : ℕ) (q : Field
 pub record Judged (k : Kind) (us : List ℕ) (at to : ℕ) (q : FieldPass) : Type 0 where
   pub inside : Told (Unit {0}) k us at to q
   pub around : Told ℕ k us at to q
+
+-- The same from a place in a file's bytes.
+abbrev pub JudgedHere : Kind → Cursor → FieldPass → Type 0
+JudgedHere k here q = Judged k here.src.now here.at here.to q
 
 -- So many bytes can be read as one number.
 pub record Sized (n : ℕ) : Type 0 where

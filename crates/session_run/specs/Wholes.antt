@@ -14,6 +14,7 @@ use Rattle.pieces.specs.Going.{room}
 use Rattle.pieces.specs.Parts.{part_then}
 use Rattle.pieces.specs.BoundLaws.{Most}
 use Rattle.pieces.specs.PartBounds.{doubles_most}
+use Rattle.session_run.specs.declared.cursor.Cursor.{Cursor}
 use Rattle.session_run.specs.Steps.{StepsTo, steps_same, layout_steps}
 
 -- The fields of a layout were judged.
@@ -23,6 +24,13 @@ pub record Whole {A : Type 0} (L : Layout A) (us : List ℕ) (at to : ℕ) (r : 
 -- The part with this digit was.
 pub record PartWhole (v x y part : ℕ) (us : List ℕ) (at to : ℕ) (r : Pass) : Type 0 where
   pub steps : (n : ℕ) (K : Script (Unit {0})) → StepsTo (part_then v n x y part K) K us at to r.at r.to
+
+-- The same from a place in a file's bytes.
+abbrev pub WholeHere : {A : Type 0} → Layout A → Cursor → Pass → Type 0
+WholeHere L here r = Whole L here.src.now here.at here.to r
+
+abbrev pub PartHere : (v x y part : ℕ) → Cursor → Pass → Type 0
+PartHere v x y part here r = PartWhole v x y part here.src.now here.at here.to r
 
 pub laid-whole : {A : Type 0} (L : Layout A) {n : ℕ} → Most n L → n ≤ room → Asks (L ⟫ done) → {us m m' : List ℕ} {at to : ℕ} {r : Pass} → at ≤ length us → Laid L.format way us m m' at to r.at r.to → Whole L us at to r
 laid-whole L most fits asks inside laid = record { steps = λ K. layout_steps L most fits asks K inside laid }

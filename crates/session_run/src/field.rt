@@ -7,7 +7,7 @@ ghost use Rattle.ways.specs.Passes.{refusal_of};
 ghost use Rattle.from_file.specs.Way.{way};
 ghost use Rattle.reader.specs.FieldsAt.{number_at};
 ghost use Rattle.reader.specs.OuterLaws.{outer_id};
-ghost use Rattle.session_run.specs.Told.{Judged, told_of, Sized, Plain, double_plain, object_plain, outer_plain, magic_plain, length_plain, version_plain};
+ghost use Rattle.session_run.specs.Told.{JudgedHere, told_of, Sized, Plain, double_plain, object_plain, outer_plain, magic_plain, length_plain, version_plain};
 
 use crate::cursor::Cursor;
 use drawing::head::{MAGIC, VERSION_LAST, VERSION_LENGTH, VERSION_ZERO};
@@ -175,7 +175,7 @@ fn number_at(src: &[u8], at: usize, size: usize) -> u64
 
 // The next field's value, and how far that is; or where and why it is refused.
 pub fn judged<K: Field>(here: Cursor, field: K) -> FieldPass
-    ensures { Judged (K.kind field) here.entry.src.now here.entry.at here.entry.to result }
+    ensures { JudgedHere (K.kind field) here.entry result }
 {
     let size = field.size();
     if FromFile::there(here.src, here.at, size, (size + 3) / 4) {

@@ -2,7 +2,7 @@
 ghost use Rattle.std.specs.Prelude.{◌≡◌, List, ℕ, ◌+◌, ◌-◌, ◌^◌, ◌<◌, ◌≤◌, length, get_or};
 ghost use Rattle.pieces.specs.EntryLaws.{leaf_parts};
 ghost use Rattle.session_run.specs.Insides.{Opened};
-ghost use Rattle.session_run.specs.Objects.{Sound, PlaceSteps, HeadSteps, Between, IsOpen, IsOver, Unended};
+ghost use Rattle.session_run.specs.Objects.{Sound, PlaceHere, HeadHere, Between, IsOpen, IsOver, Unended};
 
 use crate::cursor::{Cursor, Step};
 use crate::field::{Magic, ObjectId, OuterId, VersionChars, VersionLength, judged};
@@ -32,7 +32,7 @@ pub struct Place {
 
 fn magic_step(here: Cursor, p: Place) -> Step<Place>
     requires { (p.stage ≡ 0) × Sound p }
-    ensures { HeadSteps p here.entry.src.now here.entry.at here.entry.to result }
+    ensures { HeadHere p here.entry result }
 {
     Step {
         left: Place {
@@ -45,7 +45,7 @@ fn magic_step(here: Cursor, p: Place) -> Step<Place>
 
 fn length_step(here: Cursor, p: Place) -> Step<Place>
     requires { (p.stage ≡ 1) × Sound p }
-    ensures { HeadSteps p here.entry.src.now here.entry.at here.entry.to result }
+    ensures { HeadHere p here.entry result }
 {
     Step {
         left: Place {
@@ -58,7 +58,7 @@ fn length_step(here: Cursor, p: Place) -> Step<Place>
 
 fn version_step(here: Cursor, p: Place) -> Step<Place>
     requires { (p.stage ≡ 2) × Sound p }
-    ensures { HeadSteps p here.entry.src.now here.entry.at here.entry.to result }
+    ensures { HeadHere p here.entry result }
 {
     let told = judged(here, VersionChars);
     if REFUSED <= told.pass.at {
@@ -79,7 +79,7 @@ fn version_step(here: Cursor, p: Place) -> Step<Place>
 
 fn settings_step(here: Cursor, p: Place) -> Step<Place>
     requires { (p.stage ≡ 3) × Sound p }
-    ensures { HeadSteps p here.entry.src.now here.entry.at here.entry.to result }
+    ensures { HeadHere p here.entry result }
 {
     let mut none = [0u32; 0];
     Step {
@@ -94,7 +94,7 @@ fn settings_step(here: Cursor, p: Place) -> Step<Place>
 // The outer group, whose count comes next.
 fn outer_step(here: Cursor, p: Place) -> Step<Place>
     requires { (p.stage ≡ 4) × Sound p }
-    ensures { HeadSteps p here.entry.src.now here.entry.at here.entry.to result }
+    ensures { HeadHere p here.entry result }
 {
     Step {
         left: Place {
@@ -112,7 +112,7 @@ fn outer_step(here: Cursor, p: Place) -> Step<Place>
 // A group's count: it is open, with so many members.
 fn count_step(here: Cursor, p: Place, members: &mut [u32]) -> Step<Place>
     requires { (p.stage ≡ 5) × (p.depth < 16) × (length members.old ≡ 16) }
-    ensures { PlaceSteps p members.old members.new here.entry.src.now here.entry.at here.entry.to result }
+    ensures { PlaceHere p members.old members.new here.entry result }
 {
     let mut none = [0u32; 0];
     let counted = count::<FromFile>(here.src, &mut none, here.at, here.to, LEAST_MEMBERS);
@@ -155,7 +155,7 @@ fn leaf_parts(version: u32, letter: u64) -> u64
 fn object_step(here: Cursor, p: Place, members: &mut [u32]) -> Step<Place>
     requires between_objects { (p.stage ≡ 6) × Between p.inside × Sound p × (p.rows < 2 ^ 31) × (length members.old ≡ 16) }
     requires depth_nonzero { (0 < p.depth) × (0 < get_or members.old (p.depth - 1) 0) }
-    ensures { PlaceSteps p members.old members.new here.entry.src.now here.entry.at here.entry.to result }
+    ensures { PlaceHere p members.old members.new here.entry result }
 {
     let id = ObjectId {
         version: p.version,
@@ -198,7 +198,7 @@ fn object_step(here: Cursor, p: Place, members: &mut [u32]) -> Step<Place>
 fn around_step(here: Cursor, p: Place, members: &mut [u32]) -> Step<Place>
     requires between_objects { (p.stage ≡ 6) × Between p.inside × Sound p × (p.rows < 2 ^ 31) × (length members.old ≡ 16) }
     requires depth_nonzero { 0 < p.depth }
-    ensures { PlaceSteps p members.old members.new here.entry.src.now here.entry.at here.entry.to result }
+    ensures { PlaceHere p members.old members.new here.entry result }
 {
     if members[(p.depth - 1) as usize] != 0 {
         return object_step(here, p, members);
@@ -223,7 +223,7 @@ fn around_step(here: Cursor, p: Place, members: &mut [u32]) -> Step<Place>
 // The next part of the object that is open.
 fn open_step(here: Cursor, p: Place) -> Step<Place>
     requires { (p.stage ≡ 6) × Opened p.inside × Sound p }
-    ensures { (ms : List ℕ) → PlaceSteps p ms ms here.entry.src.now here.entry.at here.entry.to result }
+    ensures { (ms : List ℕ) → PlaceHere p ms ms here.entry result }
 {
     let next = inside_step(here, p.version, p.inside);
     Step {
@@ -253,7 +253,7 @@ pub fn is_over(p: Place) -> bool
 // The next part of a file that has not come to its end.
 pub fn step(here: Cursor, p: Place, members: &mut [u32]) -> Step<Place>
     requires { Sound p × (p.rows < 2 ^ 31) × Unended p × (length members.old ≡ 16) }
-    ensures { PlaceSteps p members.old members.new here.entry.src.now here.entry.at here.entry.to result }
+    ensures { PlaceHere p members.old members.new here.entry result }
 {
     match Stage::from(p.stage) {
         Stage::Magic => magic_step(here, p),

@@ -5,7 +5,7 @@ ghost use Rattle.ways.specs.Segments.{straight, segment_letter};
 ghost use Rattle.pieces.specs.PartLaws.{with_parts};
 ghost use Rattle.pieces.specs.OutlineLaws.{segments_from};
 ghost use Rattle.session_run.specs.Digit.{digit};
-ghost use Rattle.session_run.specs.Insides.{InsideSteps, Next, Opened, Telling, Spelling, Fielded};
+ghost use Rattle.session_run.specs.Insides.{InsideHere, Next, Opened, Telling, Spelling, Fielded};
 
 use crate::cursor::{Cursor, Step};
 use crate::field::{Double, judged};
@@ -39,7 +39,7 @@ fn field_bytes(width: u32) -> usize
 // As many of a run's fields as are there, or the first of them, which is cut.
 fn run_step(here: Cursor, version: u32, s: Inside) -> Step<Inside>
     requires { 0 < s.run }
-    ensures { InsideSteps version s here.entry.src.now here.entry.at here.entry.to result }
+    ensures { InsideHere version s here.entry result }
 {
     let bytes = field_bytes(s.width);
     let there = (here.src.len() - here.at) / bytes;
@@ -67,7 +67,7 @@ fn run_step(here: Cursor, version: u32, s: Inside) -> Step<Inside>
 
 fn whole_step(here: Cursor, version: u32, s: Inside, part: Part) -> Step<Inside>
     requires { Next s (digit part) × (1 ≤ digit part) × (digit part ≤ 10) }
-    ensures { InsideSteps version s here.entry.src.now here.entry.at here.entry.to result }
+    ensures { InsideHere version s here.entry result }
 {
     Step {
         left: Inside {
@@ -82,7 +82,7 @@ fn whole_step(here: Cursor, version: u32, s: Inside, part: Part) -> Step<Inside>
 // A length, and then so many chars.
 fn string_step(here: Cursor, version: u32, s: Inside, least: u32) -> Step<Inside>
     requires { Spelling version s least }
-    ensures { InsideSteps version s here.entry.src.now here.entry.at here.entry.to result }
+    ensures { InsideHere version s here.entry result }
 {
     let mut none = [0u32; 0];
     let length = count::<FromFile>(here.src, &mut none, here.at, here.to, least);
@@ -107,7 +107,7 @@ fn dash_run(n: u64) -> u64
 
 fn dash_step(here: Cursor, version: u32, s: Inside) -> Step<Inside>
     requires { Next s 11 }
-    ensures { InsideSteps version s here.entry.src.now here.entry.at here.entry.to result }
+    ensures { InsideHere version s here.entry result }
 {
     let mut none = [0u32; 0];
     let counted = dash_count::<FromFile>(here.src, &mut none, here.at, here.to);
@@ -132,7 +132,7 @@ fn either_of(test: bool, one: u64, other: u64) -> u64
 // A flag tells which parts follow.
 fn flag_step(here: Cursor, version: u32, s: Inside, one: u64, other: u64) -> Step<Inside>
     requires { Telling version s F.flag (λ f. with_parts s (cond (eqb f 1) one other)) }
-    ensures { InsideSteps version s here.entry.src.now here.entry.at here.entry.to result }
+    ensures { InsideHere version s here.entry result }
 {
     let mut none = [0u32; 0];
     let told = flag::<FromFile>(here.src, &mut none, here.at, here.to);
@@ -172,7 +172,7 @@ fn segments_from(s: Inside, part: u64, left: u32, doubles: u64) -> Inside
 
 fn outline_step(here: Cursor, version: u32, s: Inside) -> Step<Inside>
     requires { Next s 17 }
-    ensures { InsideSteps version s here.entry.src.now here.entry.at here.entry.to result }
+    ensures { InsideHere version s here.entry result }
 {
     let mut none = [0u32; 0];
     let told = closed_letter::<FromFile>(here.src, &mut none, here.at, here.to);
@@ -189,7 +189,7 @@ fn outline_step(here: Cursor, version: u32, s: Inside) -> Step<Inside>
 // From 1.3 on the start point is a run before the segments.
 fn count_step(here: Cursor, version: u32, s: Inside) -> Step<Inside>
     requires { Next s 18 }
-    ensures { InsideSteps version s here.entry.src.now here.entry.at here.entry.to result }
+    ensures { InsideHere version s here.entry result }
 {
     let mut none = [0u32; 0];
     let counted = count::<FromFile>(here.src, &mut none, here.at, here.to, LEAST_SEGMENTS);
@@ -209,7 +209,7 @@ fn count_step(here: Cursor, version: u32, s: Inside) -> Step<Inside>
 // All but the letter of a segment without a start of its own is a run of doubles.
 fn segment_step(here: Cursor, version: u32, s: Inside) -> Step<Inside>
     requires { Next s 19 }
-    ensures { InsideSteps version s here.entry.src.now here.entry.at here.entry.to result }
+    ensures { InsideHere version s here.entry result }
 {
     let mut none = [0u32; 0];
     let told = segment_letter::<FromFile>(here.src, &mut none, here.at, here.to);
@@ -223,7 +223,7 @@ fn segment_step(here: Cursor, version: u32, s: Inside) -> Step<Inside>
 // A segment with a start of its own: the letter tells which parts follow.
 fn own_step(here: Cursor, version: u32, s: Inside, line: u64, curve: u64) -> Step<Inside>
     requires { Telling version s segment_letter (λ c. with_parts s (cond (straight c) line curve)) }
-    ensures { InsideSteps version s here.entry.src.now here.entry.at here.entry.to result }
+    ensures { InsideHere version s here.entry result }
 {
     let mut none = [0u32; 0];
     let told = segment_letter::<FromFile>(here.src, &mut none, here.at, here.to);
@@ -240,7 +240,7 @@ fn own_step(here: Cursor, version: u32, s: Inside, line: u64, curve: u64) -> Ste
 // The end of a segment is kept for the start of the next one.
 fn x_step(here: Cursor, version: u32, s: Inside) -> Step<Inside>
     requires { Next s 22 }
-    ensures { InsideSteps version s here.entry.src.now here.entry.at here.entry.to result }
+    ensures { InsideHere version s here.entry result }
 {
     let told = judged(here, Double);
     Step {
@@ -256,7 +256,7 @@ fn x_step(here: Cursor, version: u32, s: Inside) -> Step<Inside>
 
 fn y_step(here: Cursor, version: u32, s: Inside) -> Step<Inside>
     requires { Next s 23 }
-    ensures { InsideSteps version s here.entry.src.now here.entry.at here.entry.to result }
+    ensures { InsideHere version s here.entry result }
 {
     let told = judged(here, Double);
     let kept = Inside { y: told.value, ..s };
@@ -269,7 +269,7 @@ fn y_step(here: Cursor, version: u32, s: Inside) -> Step<Inside>
 // What ends an object: the flow frame flag, and from 1.2 on the description.
 pub fn end_step(here: Cursor, version: u32, s: Inside) -> Step<Inside>
     requires { Next s 24 }
-    ensures { InsideSteps version s here.entry.src.now here.entry.at here.entry.to result }
+    ensures { InsideHere version s here.entry result }
 {
     let mut none = [0u32; 0];
     let flow = flow_flag::<FromFile>(here.src, &mut none, here.at, here.to);
@@ -298,7 +298,7 @@ pub fn end_step(here: Cursor, version: u32, s: Inside) -> Step<Inside>
 // The next part, which there is.
 fn part_step(here: Cursor, version: u32, s: Inside, part: Part) -> Step<Inside>
     requires { Next s (digit part) × (1 ≤ digit part) }
-    ensures { InsideSteps version s here.entry.src.now here.entry.at here.entry.to result }
+    ensures { InsideHere version s here.entry result }
 {
     match part {
         Part::Nothing => unreachable!(),
@@ -332,7 +332,7 @@ fn part_step(here: Cursor, version: u32, s: Inside, part: Part) -> Step<Inside>
 // The next fields of an object that is open.
 pub fn inside_step(here: Cursor, version: u32, s: Inside) -> Step<Inside>
     requires { Opened s }
-    ensures { InsideSteps version s here.entry.src.now here.entry.at here.entry.to result }
+    ensures { InsideHere version s here.entry result }
 {
     if 0 < s.run {
         run_step(here, version, s)

@@ -8,7 +8,7 @@ ghost use Rattle.layout.specs.Lays.{Begins, Lays};
 ghost use Rattle.from_file.specs.Way.{way};
 ghost use Rattle.pieces.specs.LeafLaws as L;
 ghost use Rattle.session_run.specs.Digit.{digit};
-ghost use Rattle.session_run.specs.Wholes.{Whole, PartWhole};
+ghost use Rattle.session_run.specs.Wholes.{WholeHere, PartHere};
 
 use crate::cursor::Cursor;
 use crate::parts::Part;
@@ -42,7 +42,7 @@ fn join_end(src: &[u8], dst: &mut [u32], at: usize, to: usize) -> Pass
 
 // Cap, join and winding rule.
 fn line_end(here: Cursor) -> Pass
-    ensures { Whole L.line_end here.entry.src.now here.entry.at here.entry.to result }
+    ensures { WholeHere L.line_end here.entry result }
 {
     let mut none = [0u32; 0];
     let cap = byte::<FromFile>(here.src, &mut none, here.at, here.to, 0, LAST_CAP);
@@ -51,7 +51,7 @@ fn line_end(here: Cursor) -> Pass
 
 // Shape, series, size and transformation.
 fn face(here: Cursor) -> Pass
-    ensures { Whole T.face here.entry.src.now here.entry.at here.entry.to result }
+    ensures { WholeHere T.face here.entry result }
 {
     let mut none = [0u32; 0];
     let shape = byte::<FromFile>(here.src, &mut none, here.at, here.to, 0, LAST_SHAPE);
@@ -69,7 +69,7 @@ fn face(here: Cursor) -> Pass
 
 // Horizontal and vertical alignment.
 fn alignment(here: Cursor) -> Pass
-    ensures { Whole L.alignment here.entry.src.now here.entry.at here.entry.to result }
+    ensures { WholeHere L.alignment here.entry result }
 {
     let mut none = [0u32; 0];
     let across = byte::<FromFile>(here.src, &mut none, here.at, here.to, 0, LAST_HORIZONTAL);
@@ -86,7 +86,7 @@ fn alignment(here: Cursor) -> Pass
 
 // A start with the very bits of the end before.
 fn joined_start(here: Cursor, x: u64, y: u64) -> Pass
-    ensures { Whole (field (F.joined x) & field (F.joined y)) here.entry.src.now here.entry.at here.entry.to result }
+    ensures { WholeHere (field (F.joined x) & field (F.joined y)) here.entry result }
 {
     let mut none = [0u32; 0];
     let across = joined::<FromFile>(here.src, &mut none, here.at, here.to, x);
@@ -96,7 +96,7 @@ fn joined_start(here: Cursor, x: u64, y: u64) -> Pass
 // A few doubles.
 fn doubles(here: Cursor, count: u64) -> Pass
     requires { (0 < count) × (count ≤ 6) }
-    ensures { Whole (repeat count (field F.double)) here.entry.src.now here.entry.at here.entry.to result }
+    ensures { WholeHere (repeat count (field F.double)) here.entry result }
 {
     let mut none = [0u32; 0];
     run::<FromFile>(here.src, &mut none, here.at, here.to, 8, count)
@@ -104,7 +104,7 @@ fn doubles(here: Cursor, count: u64) -> Pass
 
 pub fn whole(here: Cursor, version: u32, x: u64, y: u64, part: Part) -> Pass
     requires { (1 ≤ digit part) × (digit part ≤ 10) }
-    ensures { PartWhole version x y (digit part) here.entry.src.now here.entry.at here.entry.to result }
+    ensures { PartHere version x y (digit part) here.entry result }
 {
     let mut none = [0u32; 0];
     match part {

@@ -1,9 +1,6 @@
-use Rattle.session_run.specs.Objects.{between_done, end_next, ended-place}
+use Rattle.session_run.specs.Objects.{between_done, ended-place}
 use mathlib.Core.Path.{refl}
 use Rattle.session_run.proofs.place.around_step.Goals as goal
-
-pub end_step-ended-requires : goal.end_step-ended-requires
-end_step-ended-requires c = end_next c.args.p.inside refl
 
 pub returns : goal.returns
 returns c =
