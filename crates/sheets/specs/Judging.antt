@@ -1,12 +1,13 @@
 -- What judging a sheet comes to.
-use Rattle.std.specs.Prelude.{◌≡◌, Bool, true, false, ℕ, List}
+use Rattle.std.specs.Prelude.{◌≡◌, Bool, true, false, ℕ, List, length, None, Some}
+use Rattle.std.specs.Prelude.{Option as Maybe}
 use Rattle.std.proofs.Math.Option.{Option, none, some}
 use Rattle.drawing.specs.Drawing.{Drawing}
 use Rattle.drawing.specs.TableDrawing.{drawing_of_table}
 use Rattle.drawing.specs.Sheet.{number_bytes, IsSheet}
 use Rattle.drawing.specs.SheetDrawing.{contents_in, bodies_in, drawing_of_sheet}
 use Rattle.drawing.specs.Answers.{rows_of, word_count}
-use Rattle.sheets.specs.declared.judge.Judged.{Judged}
+use Rattle.table.specs.declared.counts.Counts.{Counts}
 
 -- The test that there is a drawing.
 pub record Tells (found : Option Drawing) (r : Bool) : Type 0 where
@@ -23,6 +24,7 @@ pub record Counted (sheet : List ℕ) (rows words : ℕ) : Type 0 where
   pub rows_are : rows ≡ rows_of drawing
   pub words_are : words ≡ word_count drawing
 
-pub record Judges (sheet : List ℕ) (r : Judged) : Type 0 where
-  pub yes : r.good ≡ true → Counted sheet r.rows r.words
-  pub no : r.good ≡ false → drawing_of_sheet number_bytes sheet ≡ none
+-- The counts of a sheet, or none where these bytes are no sheet.
+abbrev pub Judges : List ℕ → Maybe Counts → Type 0
+Judges sheet None = drawing_of_sheet number_bytes sheet ≡ none
+Judges sheet (Some n) = Counted sheet n.rows n.words × (n.length ≡ length sheet)

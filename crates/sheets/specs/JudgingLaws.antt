@@ -1,5 +1,5 @@
 -- The laws of judging a sheet, one for each way through it.
-use Rattle.std.specs.Prelude.{◌≡◌, refl, Bool, true, false, cond, ℕ, ◌+◌, ◌-◌, ◌*◌, ◌<◌, ◌≤◌, List, eqb, ltb, length, take, drop}
+use Rattle.std.specs.Prelude.{◌≡◌, refl, Bool, true, false, cond, ℕ, ◌+◌, ◌-◌, ◌*◌, ◌≤◌, List, ltb, length, take, drop}
 use Rattle.std.proofs.Common.{sym, ap, subst₂, ◌∙◌, true≢false, arith, length-drop, take_all, length-take-le, eq-eqb, ne_eqb, lt-ltb, le-ltb}
 use Rattle.std.proofs.Math.Option.{Option, none, some}
 use Rattle.format.specs.Digits.{Below}
@@ -15,9 +15,8 @@ use Rattle.laws.specs.SheetNumberLaws.{numbers-small, bodies_below}
 use Rattle.laws.specs.SheetLaws.{row_count_lem, words_count_lem, drawing-of-sheet}
 use Rattle.ways.specs.Passes.{refused}
 use Rattle.rows.specs.declared.walked.Walked.{Walked}
-use Rattle.walks.specs.FileWalks.{Whole, TableComes, WalksTable}
-use Rattle.sheets.specs.declared.judge.Judged.{Judged}
-use Rattle.sheets.specs.Judging.{Tells, HoldsTable, Counted, Judges}
+use Rattle.walks.specs.FileWalks.{TableComes, WalksTable}
+use Rattle.sheets.specs.Judging.{Tells, HoldsTable, Counted}
 
 -- A walk goes on exactly where there is a drawing.
 pub walk_tells : {cs ws m m' : List ℕ} {r : Walked} → WalksTable cs ws m m' r → Tells (drawing_of_table cs ws) (ltb r.at refused)
@@ -34,9 +33,6 @@ module _ (S : List ℕ) where
       ap (λ t. cond t (drawing_of_table (contents_in number_bytes S (row_count number_bytes S)) (bodies_in number_bytes S (row_count number_bytes S))) none)
       (ne_eqb (length S) (sheet_length number_bytes (row_count number_bytes S) (words_count number_bytes S)) other)
 
-  pub lost : {r : Judged} → r.good ≡ false → drawing_of_sheet number_bytes S ≡ none → Judges S r
-  lost bad none_is = record { yes = λ e. absurd (true≢false (sym e ∙ bad)); no = λ e. none_is }
-
   module _ (long : length S ≡ sheet_length number_bytes (row_count number_bytes S) (words_count number_bytes S)) where
     in_table : drawing_of_sheet number_bytes S ≡ drawing_of_table (contents_in number_bytes S (row_count number_bytes S)) (bodies_in number_bytes S (row_count number_bytes S))
     in_table =
@@ -48,23 +44,20 @@ module _ (S : List ℕ) where
       no_table bad =
           in_table ∙ ap (λ n. drawing_of_table (contents_in number_bytes S n) (bodies_in number_bytes S n)) (sym rows_are) ∙ told.no bad
 
-      pub found : Below 256 S → t ≡ true → {words : ℕ} → words ≡ words_count number_bytes S → Judges S (record { good = true; rows = rows; words = words })
-      found bytes good {words} words_are = record { yes = λ e. counted; no = λ e. absurd (true≢false e) }
-        where
-          counted : Counted S rows words
-          counted =
-              let has = told.yes good in
-              let d = has.0 in
-              let sheet : IsSheet S d =
-              (drawing-of-sheet S bytes d).0 (in_table ∙ ap (λ n. drawing_of_table (contents_in number_bytes S n) (bodies_in number_bytes S n)) (sym rows_are) ∙ has.1) in
-              let small = numbers-small d sheet.acceptable in
-              let below = bodies_below d sheet.acceptable in
-              record {
-                drawing = d;
-                is-sheet = sheet;
-                rows_are = rows_are ∙ ap (row_count number_bytes) sheet.bytes_are ∙ row_count_lem number_bytes (omega arith) d small below;
-                words_are = words_are ∙ ap (words_count number_bytes) sheet.bytes_are ∙ words_count_lem number_bytes (omega arith) d small below;
-              }
+      pub found : Below 256 S → t ≡ true → {words : ℕ} → words ≡ words_count number_bytes S → Counted S rows words
+      found bytes good {words} words_are =
+          let has = told.yes good in
+          let d = has.0 in
+          let sheet : IsSheet S d =
+          (drawing-of-sheet S bytes d).0 (in_table ∙ ap (λ n. drawing_of_table (contents_in number_bytes S n) (bodies_in number_bytes S n)) (sym rows_are) ∙ has.1) in
+          let small = numbers-small d sheet.acceptable in
+          let below = bodies_below d sheet.acceptable in
+          record {
+            drawing = d;
+            is-sheet = sheet;
+            rows_are = rows_are ∙ ap (row_count number_bytes) sheet.bytes_are ∙ row_count_lem number_bytes (omega arith) d small below;
+            words_are = words_are ∙ ap (words_count number_bytes) sheet.bytes_are ∙ words_count_lem number_bytes (omega arith) d small below;
+          }
 
 -- The two parts of a sheet that are walked, as the code cuts them out.
 module _ (S : List ℕ) (rows : ℕ) {before : ℕ} (is : before ≡ bytes_before number_bytes rows) (inside : before ≤ length S) where

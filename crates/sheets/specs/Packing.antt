@@ -1,6 +1,6 @@
 -- What packing a table into a sheet comes to.
-use Rattle.std.specs.Prelude.{◌≡◌, ℕ, suc, ◌^◌, List, ◌∷◌, ◌++◌}
-use Rattle.format.specs.Digits.{Below, all_digits}
+use Rattle.std.specs.Prelude.{◌≡◌, ℕ, List, ◌∷◌, ◌++◌}
+use Rattle.format.specs.Digits.{all_digits}
 use Rattle.drawing.specs.Drawing.{Drawing}
 use Rattle.drawing.specs.Table.{IsTable}
 use Rattle.drawing.specs.Sheet.{number_bytes, word_bytes}

@@ -1,10 +1,9 @@
 -- The laws of writing a sheet: what is packed is the sheet of the drawing whose table it is.
-use Rattle.std.specs.Prelude.{◌≡◌, refl, ℕ, zero, suc, ◌+◌, ◌*◌, ◌^◌, ◌<◌, ◌≤◌, List, [], ◌∷◌, ◌++◌, leb, length, drop, get_or}
-use Rattle.std.proofs.Common.{sym, ap, ap₂, subst, ◌∙◌, arith, append_assoc, append-nil, length-append, le-leb}
+use Rattle.std.specs.Prelude.{◌≡◌, refl, ℕ, zero, suc, ◌+◌, ◌*◌, ◌^◌, ◌<◌, ◌≤◌, List, [], ◌∷◌, ◌++◌, leb, length, get_or}
+use Rattle.std.proofs.Common.{sym, ap, ap₂, subst, ◌∙◌, arith, length-append, le-leb}
 use Rattle.std.proofs.Math.Option.{Option, none, some}
 use Rattle.std.proofs.lemmas.Bool.{lt-leb}
 use Rattle.format.specs.Digits.{Below, digits, all_digits}
-use Rattle.format.specs.DigitsLaws.{length_digits}
 use Rattle.format.specs.Pass.{splice}
 use Rattle.format.specs.PackedLaws.{length-all-digits}
 use Rattle.format.specs.Recode.{recoded}
@@ -13,9 +12,9 @@ use Rattle.drawing.specs.Limits.{length_limit}
 use Rattle.drawing.specs.Fields.{unless}
 use Rattle.drawing.specs.declared.Answer.{Answer}
 use Rattle.drawing.specs.Drawing.{Drawing, outer}
-use Rattle.drawing.specs.Table.{row_width, rows, contents_of, bodies_of, IsTable}
+use Rattle.drawing.specs.Table.{row_width, rows, bodies_of}
 use Rattle.drawing.specs.TableDrawing.{drawing_of_table}
-use Rattle.drawing.specs.Sheet.{number_bytes, word_bytes, sheet_of}
+use Rattle.drawing.specs.Sheet.{number_bytes, sheet_of}
 use Rattle.drawing.specs.SheetDrawing.{bytes_before, sheet_length}
 use Rattle.drawing.specs.Answers.{answer, overwrite, Output, written, sheet_written, nothing_stored}
 use Rattle.drawing.specs.Computed.{from_table, check_from, sheet_output}

@@ -1,15 +1,15 @@
 -- The laws of reading a sheet: what is copied out of it is the drawing's table.
-use Rattle.std.specs.Prelude.{◌≡◌, refl, ℕ, ◌+◌, ◌*◌, ◌/◌, ◌^◌, ◌<◌, ◌≤◌, List, [], ◌++◌, length, drop}
+use Rattle.std.specs.Prelude.{◌≡◌, ℕ, ◌+◌, ◌*◌, ◌/◌, ◌^◌, ◌<◌, ◌≤◌, List, [], ◌++◌, length, drop}
 use Rattle.std.proofs.Common.{sym, ap, ap₂, ◌∙◌, arith, append_assoc, append-nil, length-append, drop_at}
 use Rattle.std.proofs.Math.Option.{none}
-use Rattle.format.specs.Digits.{Below, all_digits}
+use Rattle.format.specs.Digits.{Below}
 use Rattle.format.specs.Pass.{splice}
 use Rattle.format.specs.Recode.{recoded}
 use Rattle.drawing.specs.Limits.{length_limit}
 use Rattle.drawing.specs.declared.Answer.{Answer}
-use Rattle.drawing.specs.Drawing.{Drawing, outer}
-use Rattle.drawing.specs.Table.{row_width, rows, contents_of, bodies_of}
-use Rattle.drawing.specs.Sheet.{number_bytes, word_bytes, sheet_of, IsSheet}
+use Rattle.drawing.specs.Drawing.{Drawing}
+use Rattle.drawing.specs.Table.{row_width, contents_of, bodies_of}
+use Rattle.drawing.specs.Sheet.{number_bytes, word_bytes, sheet_of}
 use Rattle.drawing.specs.SheetDrawing.{bytes_before, sheet_length, drawing_of_sheet}
 use Rattle.drawing.specs.Answers.{answer, sheet_read, sheet_refused}
 use Rattle.drawing.specs.Computed.{from_table, sheet_result}

@@ -1,5 +1,5 @@
 // Whether bytes are a sheet: its counts tell its length, and the table in it is walked where it lies.
-ghost use Rattle.std.specs.Prelude.{◌≡◌, false, ◌+◌, ◌*◌, ◌≤◌, length};
+ghost use Rattle.std.specs.Prelude.{◌≡◌, ◌+◌, ◌*◌, ◌≤◌, length};
 ghost use Rattle.drawing.specs.Limits.{length_limit};
 ghost use Rattle.drawing.specs.Sheet.{number_bytes, word_bytes};
 ghost use Rattle.drawing.specs.SheetDrawing.{bytes_before};
@@ -9,16 +9,9 @@ use drawing::row::ROW_WIDTH;
 use drawing::sheet::{NUMBER_BYTES, WORD_BYTES};
 use format::decode::char_at;
 use from_sheet::FromSheet;
+use table::counts::Counts;
 use table_walk::file::walk_table;
 use ways::REFUSED;
-
-// Whether bytes are a sheet, and its counts.
-#[derive(Clone, Copy)]
-pub struct Judged {
-    pub good: bool,
-    pub rows: usize,
-    pub words: usize,
-}
 
 // The bytes before the bodies.
 pub fn bytes_before(rows: usize) -> usize
@@ -26,16 +19,6 @@ pub fn bytes_before(rows: usize) -> usize
     ensures { result ≡ bytes_before number_bytes rows }
 {
     2 * NUMBER_BYTES + NUMBER_BYTES * (ROW_WIDTH * rows)
-}
-
-fn no_sheet() -> Judged
-    ensures { result.good ≡ false }
-{
-    Judged {
-        good: false,
-        rows: 0,
-        words: 0,
-    }
 }
 
 // The contents and the bodies, which begin at a place, are the table of some drawing.
@@ -49,24 +32,25 @@ fn holds_table(sheet: &[u8], rows: usize, before: usize) -> bool
     walked.at < REFUSED
 }
 
-pub fn judge(sheet: &[u8]) -> Judged
+// The counts of a sheet, where these bytes are one.
+pub fn judge(sheet: &[u8]) -> Option<Counts>
     ensures { Judges sheet.now result }
 {
     if sheet.len() < 2 * NUMBER_BYTES {
-        return no_sheet();
+        return None;
     }
-    let rows = char_at(&*sheet, 0) as usize;
-    let words = char_at(&*sheet, NUMBER_BYTES) as usize;
-    let before = bytes_before(rows);
-    if sheet.len() != before + WORD_BYTES * words {
-        return no_sheet();
+    let rows = char_at(sheet, 0);
+    let words = char_at(sheet, NUMBER_BYTES);
+    let before = bytes_before(rows as usize);
+    if sheet.len() != before + WORD_BYTES * words as usize {
+        return None;
     }
-    if holds_table(&*sheet, rows, before) {
-        return Judged {
-            good: true,
-            rows: rows,
-            words: words,
-        };
+    if holds_table(sheet, rows as usize, before) {
+        return Some(Counts {
+            length: sheet.len() as u32,
+            rows,
+            words,
+        });
     }
-    no_sheet()
+    None
 }

@@ -8,12 +8,13 @@ ghost use Rattle.sheets.specs.Packing.{Tabled, sheet_in};
 
 use crate::judge::bytes_before;
 use drawing::Answer;
-use drawing::numbers::{ACCEPTED, OUTPUT_TOO_SHORT};
+use drawing::numbers::{ACCEPTED, NO_TABLE, OUTPUT_TOO_SHORT};
 use drawing::row::ROW_WIDTH;
 use drawing::sheet::{NUMBER_BYTES, WORD_BYTES};
 use format::encode::put_char;
 use memory::write::write_fields;
-use table::answers::check;
+use table::answers::counted;
+use table::counts::{Counts, refused};
 
 // The counts, the contents and the bodies, where there is room for them.
 fn pack(contents: &[u32], bodies: &[u32], sheet: &mut [u8], rows: u32, words: u32)
@@ -39,26 +40,18 @@ fn pack(contents: &[u32], bodies: &[u32], sheet: &mut [u8], rows: u32, words: u3
 pub fn write(contents: &[u32], bodies: &[u32], sheet: &mut [u8]) -> Answer
     ensures { WritesSheet contents.now bodies.now sheet.old result sheet.new }
 {
-    let checked = check(&*contents, &*bodies);
-    if checked.number != ACCEPTED {
-        return checked;
-    }
-    let rows = checked.rows;
-    let words = checked.words;
-    let needed = bytes_before(rows as usize) + WORD_BYTES * words as usize;
+    let Some(counts) = counted(contents, bodies) else {
+        return refused(NO_TABLE, 0);
+    };
+    let needed = bytes_before(counts.rows as usize) + WORD_BYTES * counts.words as usize;
     if sheet.len() < needed {
-        return Answer {
-            number: OUTPUT_TOO_SHORT,
-            offset: needed as u32,
-            rows: 0,
-            words: 0,
-        };
+        return refused(OUTPUT_TOO_SHORT, needed as u32);
     }
-    pack(&*contents, &*bodies, sheet, rows, words);
-    Answer {
-        number: ACCEPTED,
-        offset: needed as u32,
-        rows: rows,
-        words: words,
-    }
+    pack(contents, bodies, sheet, counts.rows, counts.words);
+    let packed = Counts {
+        length: needed as u32,
+        rows: counts.rows,
+        words: counts.words,
+    };
+    packed.answer(ACCEPTED)
 }

@@ -7,7 +7,7 @@ use Rattle.listing.proofs.entries.entries.Goals as goal
 use Rattle.listing.proofs.entries.entries.Goals.{then-is_labelled, else-is_labelled}
 
 pub row_of-requires : goal.row_of-requires
-row_of-requires c = row_here c.loop-row.invariant.table c.loop-row.row c.loop-row-test.true
+row_of-requires c = row_here c.loop-row.invariant.table c.loop-row.row (omega (arith, c.loop-row-test.true))
 
 pub store_entry-requires : goal.store_entry-requires
 store_entry-requires c = let small = rows-small c.loop-row.invariant.table in omega (arith, small, c.loop-row-test.true)
@@ -22,7 +22,7 @@ loop-row-preserved c =
       | then-is_labelled w ↦ rw (w.room-is, w.count-is) (entered w.if-is_labelled.true w.store_entry.ensures)
       | else-is_labelled w ↦ rw (w.room-is, w.count-is) (not_entered w.if-is_labelled.false)
     ] in
-    record { table = c.loop-row.invariant.table; gathering = gather_one c.loop-row.invariant.table c.args.label.now c.loop-row.invariant.gathering c.loop-row-test.true labels one; most = omega (arith, c.loop-row-test.true) }
+    record { table = c.loop-row.invariant.table; gathering = gather_one c.loop-row.invariant.table c.args.label.now c.loop-row.invariant.gathering (omega (arith, c.loop-row-test.true)) labels one; most = omega (arith, c.loop-row-test.true) }
 
 pub returns : goal.returns
 returns c =

@@ -2,7 +2,7 @@ use Rattle.sheets.specs.ReadingLaws.{small, contents-room, bodies-room}
 use Rattle.format.specs.Recode.{recoded}
 use Rattle.format.specs.Pass.{splice}
 use lib.ListN.{length, drop}
-use Prim.Native.Nat.{◌*◌, ◌^◌}
+use Prim.Native.Nat.{◌^◌}
 use mathlib.Core.Path.{refl, ap, ◌∙◌}
 use Rattle.sheets.proofs.read.copy.Goals as goal
 

@@ -1,5 +1,4 @@
 use Prim.Native.Nat.{◌^◌}
-use mathlib.Core.Path.{◌∙◌}
 use Rattle.memory.specs.StoreLaws.{Storing}
 use Rattle.sheets.proofs.words.copy_block.Given as goal
 

@@ -1,4 +1,4 @@
-use Prim.Native.Nat.{◌+◌, ◌-◌, ◌*◌, ◌^◌}
+use Prim.Native.Nat.{◌+◌, ◌-◌, ◌*◌}
 use native.Mathlib.Omega.{arith}
 use Rattle.memory.specs.StoreLaws.{storing_begins, storing_on, storing_last, next_inside, next_fits}
 use Rattle.sheets.proofs.words.copy_blocks.Goals as goal

@@ -1,4 +1,4 @@
-use Prim.Native.Nat.{◌+◌, ◌-◌, ◌*◌, ◌^◌}
+use Prim.Native.Nat.{◌^◌}
 use Rattle.memory.specs.StoreLaws.{Storing}
 use Rattle.sheets.proofs.words.copy_blocks.Given as goal
 
