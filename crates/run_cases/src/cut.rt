@@ -1,5 +1,5 @@
 // What is found in files: bytes that part them, words, runs of words, and chars.
-ghost use Rattle.std.specs.Prelude.{◌≡◌, ◌+◌, ◌≤◌, ◌<◌, length, take};
+ghost use Rattle.std.specs.Prelude.{◌≡◌, ◌≤◌, ◌<◌, length, take};
 
 // What is before the first such byte, and what is behind it. Where there is none, all is before it.
 pub fn cut_at(bytes: &[u8], wanted: u8) -> (&[u8], &[u8])
