@@ -1,5 +1,4 @@
 // What is asked about rows.
-
 ghost use Rattle.std.specs.Iterator.{IsFinite};
 
 use std::fmt::{Display, Write};

@@ -1,5 +1,5 @@
 // What is found in files: bytes that part them, words, runs of words, and chars.
-ghost use Rattle.std.specs.Prelude.{◌≡◌, ◌+◌, ◌≤◌, ◌<◌, length, take};
+ghost use Rattle.std.specs.Prelude.{◌≡◌, ◌≤◌, ◌<◌, length, take, drop};
 
 // What is before the first such byte, and what is behind it. Where there is none, all is before it.
 pub fn cut_at(bytes: &[u8], wanted: u8) -> (&[u8], &[u8])
@@ -13,7 +13,10 @@ pub fn cut_at(bytes: &[u8], wanted: u8) -> (&[u8], &[u8])
 }
 
 // A run of so many words, and what is behind it. Where there are not so many, all are the run.
-pub fn cut_run(words: &[u32], count: u32) -> (&[u32], &[u32]) {
+pub fn cut_run(words: &[u32], count: u32) -> (&[u32], &[u32])
+    ensures run { result.0.now ≡ take count words.now }
+    ensures rest { result.1.now ≡ drop count words.now }
+{
     words.split_at(words.len().min(count as usize))
 }
 

@@ -1,6 +1,5 @@
 // Cases of a session: a data file is words, depth and count of bytes of a made-up session, a place in the middle of the file, the number of cuts and the cuts; then
 // the file.
-ghost use Rattle.std.specs.Prelude.{◌≤◌};
 
 use crate::cut::cut_run;
 use crate::group::Group;
