@@ -1,7 +1,6 @@
+use Rattle.std.proofs.Common.{sym, ◌∙◌, arith}
 use Rattle.format.specs.PackedLaws.{length-unpacked, unpacked-at}
-use mathlib.Core.Path.{sym, ◌∙◌}
-use native.Mathlib.Omega.{arith}
-use Rattle.sheet_rows.proofs.look.number_in.Goals as goal
+use Rattle.rows.proofs.cells.U8Cell.number.Goals as goal
 
 pub overflow_mul-place : goal.overflow_mul-place
 overflow_mul-place c = omega (arith, length-unpacked 2 c.args.contents.now, c.requires)

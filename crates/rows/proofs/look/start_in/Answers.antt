@@ -1,7 +1,0 @@
--- `rows::look::start_in` meets its contract.
-use Prim.Native.Nat.{◌+◌, ◌*◌}
-use native.Mathlib.Omega.{arith}
-use Rattle.rows.proofs.look.start_in.Goals as goal
-
-pub overflow_cast-result : goal.overflow_cast-result
-overflow_cast-result c = let fit = c.type_inv.contents (4 * c.args.row + 2) in omega (arith, fit)
