@@ -1,6 +1,6 @@
 -- Runs of words packed into bytes, and unpacked from them.
-use Rattle.std.specs.Prelude.{◌≡◌, refl, ℕ, zero, suc, ◌+◌, ◌*◌, ◌/◌, ◌%◌, ◌^◌, ◌<◌, ◌≤◌, List, [], ◌∷◌, ◌++◌, length, take, drop}
-use Rattle.std.proofs.Common.{sym, ap, ap₂, ◌∙◌, arith, append_assoc, take_at, drop_at}
+use Rattle.std.specs.Prelude.{◌≡◌, refl, ℕ, ◌+◌, ◌*◌, ◌%◌, ◌^◌, ◌<◌, ◌≤◌, List, [], ◌∷◌, ◌++◌, length, take, drop}
+use Rattle.std.proofs.Common.{ap, ap₂, ◌∙◌, arith, append_assoc, take_at, drop_at}
 use Rattle.std.proofs.Math.Nat as Nat
 use Rattle.format.specs.Digits.{Below, number, digits, all_digits}
 use Rattle.format.specs.DigitsLaws.{length_digits, number_digits}

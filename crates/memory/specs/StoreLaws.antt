@@ -141,6 +141,19 @@ module _ {base other : ℕ} {us start : List ℕ} {from to w u count : ℕ} wher
         rw (Nat.one-mul w, Nat.one-mul u) at
         (storing_on 1 one one (is ∙ ap (λ ws. splice place ws s) (sym (append-nil (digits other u (number base (take w (drop at us))))))))
 
+    -- The same places, counted otherwise.
+    pub storing_from : {a p n : ℕ} → at ≡ a → place ≡ p → left ≡ n → Storing base other us start from to w u count a p n s
+    storing_from e f g =
+        record {
+          done = on.done;
+          all = omega (arith, on.all, g);
+          at-is = omega (arith, on.at-is, e);
+          place_is = omega (arith, on.place_is, f);
+          stored = on.stored;
+          room = on.room;
+          same_length = on.same_length;
+        }
+
     pub storing_ends : (0 < left → ⊥) → s ≡ splice to (recoded base w other u count (drop from us)) start
     storing_ends none =
         let all : on.done ≡ count = by left on.all none in

@@ -63,14 +63,8 @@ pub fn store_fields(
     requires { (is_short size ≡ true) × Room file.now from size 1 count to (length bodies.old) }
     ensures { bodies.new ≡ splice to (recoded 256 size (2 ^ 32) 1 count (drop from file.now)) bodies.old }
 {
-    let mut at = from;
-    let mut place = to;
-    let mut left = count;
-    while 0 < left {
-        bodies[place] = field_at(&*file, at, size);
-        at = at + size;
-        place = place + 1;
-        left = left - 1;
+    for i in 0..count {
+        bodies[to + i] = field_at(file, from + i * size, size);
     }
 }
 

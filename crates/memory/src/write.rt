@@ -49,14 +49,8 @@ pub fn write_fields(
     requires small_words { SmallWords size words.now from count }
     ensures { out.new ≡ splice to (recoded (2 ^ 32) 1 256 size count (drop from words.now)) out.old }
 {
-    let mut at = from;
-    let mut place = to;
-    let mut left = count;
-    while 0 < left {
-        put_field(out, place, size, words[at]);
-        at = at + 1;
-        place = place + size;
-        left = left - 1;
+    for i in 0..count {
+        put_field(out, to + i * size, size, words[from + i]);
     }
 }
 
@@ -93,14 +87,8 @@ fn write_many(words: &[u32], from: usize, out: &mut [u8], to: usize, count: usiz
     requires small_words { SmallWords 2 words.now from count }
     ensures { out.new ≡ splice to (recoded (2 ^ 32) 1 256 2 count (drop from words.now)) out.old }
 {
-    let mut at = from;
-    let mut place = to;
-    let mut left = count;
-    while 8 < left {
-        write_eight(&*words, at, out, place);
-        at = at + 8;
-        place = place + 16;
-        left = left - 8;
+    for i in 0..(count - 1) / 8 {
+        write_eight(words, from + 8 * i, out, to + 16 * i);
     }
     write_eight(&*words, from + count - 8, out, to + 2 * count - 16);
 }
@@ -142,11 +130,9 @@ pub fn all_chars(words: &[u32], from: usize, count: usize) -> bool
     requires { from + count ≤ length words.now }
     ensures { AllChars words.now from count result }
 {
-    let mut i = 0;
     let mut all = 0u32;
-    while i < count {
-        all = all | words[from + i];
-        i = i + 1;
+    for word in &words[from..from + count] {
+        all |= *word;
     }
     all < 65536
 }

@@ -1,32 +1,27 @@
+-- `memory::write::all_chars` meets its contract.
+use Rattle.std.proofs.Common.{◌≡◌, ℕ, ◌+◌, ◌-◌, ◌≤◌, ◌<◌, List, length, get_or, take, drop, ◌∙◌, sym, arith, length-drop, length-take-le}
+use Rattle.std.proofs.lemmas.List.{get_or-take, get_or-drop}
 use Rattle.memory.specs.CharLaws.{together_none, together_more, together_chars}
-use mathlib.Core.Path.{◌≡◌}
-use Prim.Native.Nat.{ℕ, ◌-◌, ◌≤◌}
-use native.Mathlib.Omega.{arith}
 use Rattle.memory.proofs.write.all_chars.Goals as goal
 
-pub loop-i-init : goal.loop-i-init
-loop-i-init c = (omega arith, together_none c.args.words.now c.args.from)
+-- The words that are gone over.
+long : (words : List ℕ) (from count : ℕ) → from + count ≤ length words → length (take (from + count - from) (drop from words)) ≡ count
+long words from count inside =
+    let rest : length (drop from words) ≡ length words - from = length-drop from words in
+    length-take-le (from + count - from) (drop from words) (omega (arith, rest)) ∙ omega arith
 
-pub overflow_add-all : goal.overflow_add-all
-overflow_add-all c = omega (arith, c.requires, c.loop-i.invariant.0)
+word : (words : List ℕ) (from count i : ℕ) → i < count → get_or words (from + i) 0 ≡ get_or (take (from + count - from) (drop from words)) i 0
+word words from count i less = sym (get_or-take (from + count - from) (drop from words) i 0 (omega arith) ∙ get_or-drop from words i 0)
 
-pub offset_bounds-words-from : goal.offset_bounds-words-from
-offset_bounds-words-from c = omega (arith, c.requires, c.loop-i.invariant.0)
+pub loop-word-init : goal.loop-word-init
+loop-word-init c = together_none c.args.words.now c.args.from
 
-pub bounds-words-from : goal.bounds-words-from
-bounds-words-from c = omega (arith, c.requires, c.loop-i.invariant.0)
-
-pub overflow_add-i : goal.overflow_add-i
-overflow_add-i c = omega (arith, c.requires, c.loop-i.invariant.0)
-
-pub loop-i-smaller : goal.loop-i-smaller
-loop-i-smaller c = omega (arith, c.loop-i.invariant.0)
-
-pub loop-i-preserved : goal.loop-i-preserved
-loop-i-preserved c =
-    (omega (arith, c.loop-i.invariant.0), together_more c.args.words.now c.args.from c.loop-i.i c.loop-i.all c.loop-i.invariant.1)
+pub loop-word-preserved : goal.loop-word-preserved
+loop-word-preserved c =
+    let less : c.loop-word.word-index < c.args.count = omega (arith, c.loop-word-test.true, long c.args.words.now c.args.from c.args.count c.requires) in
+    rw (word c.args.words.now c.args.from c.args.count c.loop-word.word-index less) at (together_more c.args.words.now c.args.from c.loop-word.word-index c.loop-word.all c.loop-word.invariant)
 
 pub returns : goal.returns
 returns c =
-    let at_end : ◌≡◌ {A = ℕ} c.loop-i.i c.args.count = omega (arith, c.loop-i.invariant.0, c.loop-i-test.false) in
-    together_chars c.args.words.now c.args.from c.args.count c.loop-i.all (rw at_end at c.loop-i.invariant.1)
+    let end : c.loop-word.word-index ≡ c.args.count = omega (arith, c.loop-word-test.false, c.loop-word.auto.word-index-end, long c.args.words.now c.args.from c.args.count c.requires) in
+    together_chars c.args.words.now c.args.from c.args.count c.loop-word.all (rw end at c.loop-word.invariant)

@@ -1,44 +1,26 @@
 -- `memory::write::write_fields` meets its contract.
-use Rattle.memory.specs.StoreLaws.{storing_begins, storing_again, storing_ends, one_inside, one-fits, small_next}
+use Rattle.std.proofs.Common.{◌+◌, ◌-◌, ◌*◌, ◌^◌, ◌<◌, sym, ap, ◌∙◌, arith}
+use Rattle.memory.specs.StoreLaws.{storing_begins, storing_again, storing_from, storing_ends, one_inside, one-fits, small_next}
 use Rattle.format.specs.LeafLaws.{field-one}
 use Rattle.format.specs.Digits.{digits}
 use Rattle.format.specs.Pass.{splice}
-use Prim.Native.Nat.{◌^◌}
-use mathlib.Core.Path.{sym, ap, ◌∙◌}
-use native.Mathlib.Omega.{arith}
 use Rattle.memory.proofs.write.write_fields.Goals as goal
 
-pub loop-left-init : goal.loop-left-init
-loop-left-init c = storing_begins c.requires.size_value.1
-
-pub offset_bounds-words-at : goal.offset_bounds-words-at
-offset_bounds-words-at c = omega (arith, one_inside c.loop-left.invariant c.loop-left-test.true)
-
-pub bounds-words-at : goal.bounds-words-at
-bounds-words-at c = omega (arith, one_inside c.loop-left.invariant c.loop-left-test.true)
+pub loop-i-init : goal.loop-i-init
+loop-i-init c = storing_from (storing_begins c.requires.size_value.1) (omega arith) (omega arith) (omega arith)
 
 pub put_field-requires : goal.put_field-requires
 put_field-requires c =
-    (c.requires.size_value.0, one-fits c.loop-left.invariant c.loop-left-test.true, λ two. small_next c.loop-left.invariant (c.requires.small_words two) c.loop-left-test.true)
+    let more : 0 < c.args.count - c.loop-i.i = omega (arith, c.loop-i-test.true) in
+    (c.requires.size_value.0, one-fits c.loop-i.invariant more, λ two. small_next c.loop-i.invariant (c.requires.small_words two) more)
 
-pub overflow_add-at : goal.overflow_add-at
-overflow_add-at c = omega (arith, one_inside c.loop-left.invariant c.loop-left-test.true)
-
-pub overflow_add-place : goal.overflow_add-place
-overflow_add-place c = omega (arith, one-fits c.loop-left.invariant c.loop-left-test.true)
-
-pub overflow_sub-left : goal.overflow_sub-left
-overflow_sub-left c = omega (arith, c.loop-left-test.true)
-
-pub loop-left-smaller : goal.loop-left-smaller
-loop-left-smaller c = omega (arith, c.loop-left-test.true)
-
-pub loop-left-preserved : goal.loop-left-preserved
-loop-left-preserved c =
-    storing_again c.loop-left.invariant c.loop-left-test.true (c.put_field.ensures ∙ ap (λ v. splice c.loop-left.place (digits 256 c.args.size v) c.loop-left.out) (sym (field-one (2 ^ 32) c.args.words.now c.loop-left.at (omega (arith, one_inside c.loop-left.invariant c.loop-left-test.true)))))
-
-pub shape_of-out : goal.shape_of-out
-shape_of-out c = c.loop-left.invariant.same_length
+pub loop-i-preserved : goal.loop-i-preserved
+loop-i-preserved c =
+    let more : 0 < c.args.count - c.loop-i.i = omega (arith, c.loop-i-test.true) in
+    let field = field-one (2 ^ 32) c.args.words.now (c.args.from + c.loop-i.i) (omega (arith, one_inside c.loop-i.invariant more)) in
+    storing_from
+    (storing_again c.loop-i.invariant more (c.put_field.ensures ∙ ap (λ v. splice (c.args.to + c.loop-i.i * c.args.size) (digits 256 c.args.size v) c.loop-i.out) (sym field)))
+    (omega arith) (omega arith) (omega arith)
 
 pub returns : goal.returns
-returns c = storing_ends c.loop-left.invariant (λ h. omega (arith, c.loop-left-test.false))
+returns c = storing_ends c.loop-i.invariant (λ h. omega (arith, h, c.loop-i-test.false))
