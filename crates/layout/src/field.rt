@@ -24,7 +24,7 @@ pub fn refused<W: Way>(at: usize, to: usize, number: u32) -> Pass
     ensures { Refused W.way number at to result }
 {
     if REFUSED <= at {
-        return Pass { at: at, to: to };
+        return Pass { at, to };
     }
     W::refusal(number, at)
 }
@@ -51,7 +51,7 @@ pub fn kept<W: Way>(
     W::put(dst, to, size, value);
     let behind = W::step(at, to, size, 1);
     FieldPass {
-        value: value,
+        value,
         pass: behind,
     }
 }

@@ -17,7 +17,7 @@ fn cut_run<W: Way>(src: &[W::Unit], at: usize, to: usize, size: usize) -> Pass
     ensures { CutRun W.way size (W.units src.now) at to result }
 {
     if REFUSED <= at {
-        return Pass { at: at, to: to };
+        return Pass { at, to };
     }
     let all = W::source_length(&*src);
     let units = W::source_units(size);

@@ -23,7 +23,7 @@ fn counted(number: u32, at: usize, rows: usize, words: usize) -> Answer
     ensures { result ≡ answer number at rows words }
 {
     Answer {
-        number: number,
+        number,
         offset: at as u32,
         rows: rows as u32,
         words: words as u32,

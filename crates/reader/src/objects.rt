@@ -29,7 +29,7 @@ pub fn stopped(row: usize, pass: Pass) -> Walked
     ensures { result ≡ record { row = row; at = pass.at; to = pass.to } }
 {
     Walked {
-        row: row,
+        row,
         at: pass.at,
         to: pass.to,
     }
@@ -243,11 +243,7 @@ pub fn all(
     requires { Stands (length file.now) at first to }
     ensures { DescendsMembers file.now version deep parent count at first to contents.old bodies.old contents.new bodies.new result }
 {
-    let mut reached = Walked {
-        row: first,
-        at: at,
-        to: to,
-    };
+    let mut reached = Walked { row: first, at, to };
     for _ in 0..count {
         reached = object(
             &*file,

@@ -52,10 +52,10 @@ fn given_to(s: Session, file: &[u8], at: usize, cut: u32) -> Given
 {
     let end = cut as usize;
     if end < at {
-        return Given { session: s, at: at };
+        return Given { session: s, at };
     }
     if file.len() < end {
-        return Given { session: s, at: at };
+        return Given { session: s, at };
     }
     let next = pieced(s, &file[at..end]);
     let t = next.session;

@@ -43,11 +43,7 @@ fn rowed<C: Cell>(
         return no_table();
     }
     if is_row(&*contents, row, kind, parent, start, at - start) {
-        return Walked {
-            row: next,
-            at: at,
-            to: to,
-        };
+        return Walked { row: next, at, to };
     }
     no_table()
 }
@@ -213,11 +209,7 @@ pub fn all<C: Cell, W: Words>(
     requires { Stands (C.cells contents.now) (W.units words.now) first at to }
     ensures { WalksMany version deep parent count first (C.cells contents.now) (W.units words.now) out.old out.new at to result }
 {
-    let mut reached = Walked {
-        row: first,
-        at: at,
-        to: to,
-    };
+    let mut reached = Walked { row: first, at, to };
     for _ in 0..count {
         reached = object::<C, W>(
             &*contents,
