@@ -1,6 +1,6 @@
 -- Whether a run is there, whatever is picked of its bytes and its words.
 use Rattle.std.specs.Prelude.{◌≡◌, refl, Bool, true, false, ℕ, List, ◌+◌, ◌*◌, ◌/◌, ◌<◌, ◌≤◌, length}
-use Rattle.std.proofs.Common.{arith, ap, subst}
+use Rattle.std.proofs.Common.{arith, subst}
 use Rattle.ways.specs.Way.{Units, Way, width_of, source_units}
 use Rattle.ways.specs.Picks.{Picks, picked}
 use Rattle.ways.specs.Steps.{Fits}

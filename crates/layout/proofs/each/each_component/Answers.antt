@@ -1,18 +1,10 @@
-use Rattle.ways.specs.LayoutLaws.{valued-laid, came_nowhere, came_on, one_of, none_of}
+use Rattle.ways.specs.LayoutLaws.{valued-laid, came_on, one_of, none_of}
 use Rattle.drawing.specs.Fields as F
 use Rattle.format.specs.Layout.{field}
 use native.Mathlib.Omega.{arith}
 use Prim.Native.Nat.{◌+◌, ◌-◌}
 use mathlib.Core.Path.{◌≡◌}
 use Rattle.layout.proofs.each.each_component.Goals as goal
-
-pub loop-init : goal.loop-init
-loop-init g c =
-    let all : c.args.count - 0 ≡ c.args.count = omega arith in
-    rw all (came_nowhere c.requires)
-
-pub component-taken-requires : goal.component-taken-requires
-component-taken-requires g c = c.loop.invariant.ready
 
 pub loop-preserved : goal.loop-preserved
 loop-preserved g c =

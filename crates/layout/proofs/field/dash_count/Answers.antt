@@ -1,18 +1,10 @@
-use Rattle.ways.specs.FieldPassLaws.{seen, seen_fits, seen_asked}
+use Rattle.ways.specs.FieldPassLaws.{seen, seen_asked}
 use Rattle.ways.specs.StepLaws.{not_there}
 use Rattle.ways.specs.Faults.{own_fault}
 use Rattle.drawing.specs.Fields as F
 use native.Mathlib.Omega.{arith}
 use mathlib.Core.Path.{refl}
 use Rattle.layout.proofs.field.dash_count.Goals as goal
-
-pub get-word-requires : goal.get-word-requires
-get-word-requires g c = (refl, c.there.ensures.fits.yes c.if-there.true)
-
-pub kept-requires : goal.kept-requires
-kept-requires g c =
-    let judges = own_fault F.dash_count c.get-word.result g.W.Way.way (omega (arith, g.met.W.Way.word, c.get-word.ensures.value.1)) c.get-word.ensures.value.1 c.dash_fault.ensures in
-    seen_fits (seen F.dash_count refl refl c.requires c.there.ensures.fits c.if-there.true c.get-word.ensures.value judges) refl
 
 pub returns-then-there : goal.returns-then-there
 returns-then-there g c =

@@ -1,16 +1,8 @@
-use Rattle.ways.specs.FieldPassLaws.{flag_kind, seen_flag, seen_fits, seen_asked}
+use Rattle.ways.specs.FieldPassLaws.{flag_kind, seen_flag, seen_asked}
 use Rattle.ways.specs.StepLaws.{not_there}
 use Rattle.ways.specs.Faults.{file_fault}
 use mathlib.Core.Path.{refl}
 use Rattle.layout.proofs.field.flagged.Goals as goal
-
-pub get_flag-value-requires : goal.get_flag-value-requires
-get_flag-value-requires g c = c.there.ensures.fits.yes c.if-there.true
-
-pub kept-requires : goal.kept-requires
-kept-requires g c =
-    let judges = file_fault g.W.Way.way (flag_kind c.args.fault) c.get_flag-value.ensures.1 c.flag_fault.ensures in
-    seen_fits (seen_flag (flag_kind c.args.fault).fault c.there.ensures.below refl c.requires c.there.ensures.fits c.if-there.true c.get_flag-value.ensures.0 judges) refl
 
 pub returns-then-there : goal.returns-then-there
 returns-then-there g c =

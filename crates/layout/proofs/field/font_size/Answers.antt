@@ -1,17 +1,9 @@
-use Rattle.ways.specs.StepLaws.{there_with, there-small, field-asked, not_there}
+use Rattle.ways.specs.StepLaws.{there_with, field-asked, not_there}
 use Rattle.ways.specs.Faults.{own_fault}
 use Rattle.drawing.specs.Fields as F
 use native.Mathlib.Omega.{arith}
 use mathlib.Core.Path.{refl}
 use Rattle.layout.proofs.field.font_size.Goals as goal
-
-pub get-word-requires : goal.get-word-requires
-get-word-requires g c = (refl, c.there.ensures.fits.yes c.if-there.true)
-
-pub kept-requires : goal.kept-requires
-kept-requires g c =
-    let here = there_with 4 refl c.there.ensures.fits c.if-there.true c.get-word.ensures.value in
-    (refl, omega arith, there-small 4 c.requires here (omega arith) (omega arith), λ e. omega (arith, g.met.W.Way.word, here.small))
 
 pub returns-then-there : goal.returns-then-there
 returns-then-there g c =

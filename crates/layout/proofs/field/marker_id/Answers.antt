@@ -1,19 +1,10 @@
-use Rattle.ways.specs.FieldPassLaws.{seen, seen_fits, seen_asked}
+use Rattle.ways.specs.FieldPassLaws.{seen, seen_asked}
 use Rattle.ways.specs.StepLaws.{not_there}
 use Rattle.ways.specs.Faults.{wide_fault}
 use Rattle.drawing.specs.Fields as F
 use native.Mathlib.Omega.{arith}
 use mathlib.Core.Path.{refl}
 use Rattle.layout.proofs.field.marker_id.Goals as goal
-
-pub get-id-requires : goal.get-id-requires
-get-id-requires g c = (refl, c.there.ensures.fits.yes c.if-there.true)
-
-pub kept-requires : goal.kept-requires
-kept-requires g c =
-    let kind = F.marker_id c.args.high c.args.more in
-    let judges = wide_fault g.W.Way.way kind c.get-id.ensures.value.1 refl (omega arith) c.byte_fault-fault.ensures in
-    seen_fits (seen kind refl refl c.requires c.there.ensures.fits c.if-there.true c.get-id.ensures.value judges) refl
 
 pub returns-then-there : goal.returns-then-there
 returns-then-there g c =

@@ -1,20 +1,11 @@
 use Rattle.ways.specs.FieldPassLaws.{value_within}
-use Rattle.ways.specs.StepLaws.{there_with, there-small, field-asked, not_there}
+use Rattle.ways.specs.StepLaws.{there_with, field-asked, not_there}
 use Rattle.ways.specs.Faults.{range_fault}
 use Rattle.ways.specs.Way.{source_units}
 use Rattle.memory.specs.SizeLaws.{field-size}
 use native.Mathlib.Omega.{arith}
 use mathlib.Core.Path.{refl, sym, ap}
 use Rattle.layout.proofs.field.ranged.Goals as goal
-
-pub get-value-requires : goal.get-value-requires
-get-value-requires g c = (c.requires.size_value.0, c.there.ensures.fits.yes c.if-there.true)
-
-pub kept-requires : goal.kept-requires
-kept-requires g c =
-    let sizes = field-size c.args.size c.requires.size_value.0 in
-    let here = there_with c.args.size refl c.there.ensures.fits c.if-there.true c.get-value.ensures.value in
-    (c.requires.size_value.0, sizes.1, there-small c.args.size c.requires.begins here sizes.0 sizes.1, λ e. let i = c.between.ensures.inside e in omega (arith, i.1, c.requires.size_value.2))
 
 pub returns-then-there : goal.returns-then-there
 returns-then-there g c =

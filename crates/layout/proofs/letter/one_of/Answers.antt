@@ -1,17 +1,8 @@
-use Rattle.ways.specs.FieldPassLaws.{is_one_of, letter_judges, seen, seen_fits, seen_asked}
+use Rattle.ways.specs.FieldPassLaws.{letter_judges, seen, seen_asked}
 use Rattle.ways.specs.StepLaws.{not_there}
 use Rattle.drawing.specs.Fields.{char_where}
 use mathlib.Core.Path.{refl}
 use Rattle.layout.proofs.letter.one_of.Goals as goal
-
-pub get-letter-requires : goal.get-letter-requires
-get-letter-requires g c = (refl, c.there.ensures.fits.yes c.if-there.true)
-
-pub kept-requires : goal.kept-requires
-kept-requires g c =
-    let test = is_one_of c.args.a c.args.b c.args.c in
-    let judges = letter_judges g.W.Way.way test c.requires.a_bound (λ letter. refl) c.get-letter.ensures.value.1 c.letter_fault.ensures in
-    seen_fits (seen (char_where test) refl refl c.requires.begins c.there.ensures.fits c.if-there.true c.get-letter.ensures.value judges) refl
 
 pub returns-then-there : goal.returns-then-there
 returns-then-there g c =

@@ -1,23 +1,11 @@
 use native.Mathlib.Omega.{arith}
-use native.Mathlib.Nat as Nat
 use Prim.Native.Nat.{◌+◌, ◌^◌}
 use lib.ListN.{get_or}
 use mathlib.Core.List.{[], ◌∷◌}
 use mathlib.Core.Path.{ap, ◌∙◌}
 use Rattle.format.specs.Pass.{splice}
 use Rattle.memory.specs.Spelled.{spelled-behind, eight_words}
-use borrow.Author.Rules.{rules}
 use Rattle.memory.proofs.write.write_eight.Goals as goal
-
-pub put_four-requires : goal.put_four-requires
-put_four-requires c =
-    let small = c.requires.2.small in
-    (omega (arith, c.requires.1), rw Nat.add-zero at (small 0 (omega arith)), small 1 (omega arith), small 2 (omega arith), small 3 (omega arith))
-
-pub put_four-requires-2 : goal.put_four-requires-2
-put_four-requires-2 c =
-    let small = c.requires.2.small in
-    (search rules, small 4 (omega arith), small 5 (omega arith), small 6 (omega arith), small 7 (omega arith))
 
 pub returns : goal.returns
 returns c =

@@ -1,10 +1,7 @@
 -- `memory::write::write_many` meets its contract.
 use Rattle.std.proofs.Common.{◌≡◌, refl, ◌+◌, ◌-◌, ◌*◌, ◌≤◌, ◌<◌, arith}
-use Rattle.memory.specs.StoreLaws.{storing_begins, storing_on, storing_from, storing_last, next_inside, next_fits, small-left}
+use Rattle.memory.specs.StoreLaws.{storing_on, storing_from, storing_last, next_inside, next_fits, small-left}
 use Rattle.memory.proofs.write.write_many.Goals as goal
-
-pub loop-i-init : goal.loop-i-init
-loop-i-init c = storing_from (storing_begins c.requires.le_count.1) (omega arith) (omega arith) (omega arith)
 
 pub write_eight-requires : goal.write_eight-requires
 write_eight-requires c =

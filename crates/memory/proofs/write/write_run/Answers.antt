@@ -1,29 +1,13 @@
 use mir.Syntax.{w32}
 use lib.ListN.{length}
 use native.Mathlib.Omega.{arith}
-use Prim.Native.Nat.{◌+◌, ◌*◌, ◌^◌, ◌≤◌}
+use Prim.Native.Nat.{◌^◌}
 use mathlib.Core.Path.{refl}
 use Rattle.format.specs.LeafLaws.{known_below}
 use Rattle.memory.specs.Runs.{Fitting}
-use Rattle.memory.specs.FitLaws.{run_room, run-stored, run_fitting, halves-room, halves-stored}
-use Rattle.memory.specs.SizeLaws.{run-size, run-two}
+use Rattle.memory.specs.FitLaws.{run-stored, run_fitting, halves-stored}
+use Rattle.memory.specs.SizeLaws.{run-two}
 use Rattle.memory.proofs.write.write_run.Goals as goal
-
-pub fitting-n-requires : goal.fitting-n-requires
-fitting-n-requires c =
-    let s = run-size c.args.size c.requires.size_value.0 in
-    omega (arith, s.0)
-
-pub overflow_add-n : goal.overflow_add-n
-overflow_add-n c =
-    let i : c.args.at + c.args.count * 2 ≤ length c.args.words.now = rw c.if-size-eq8.true at c.requires.size_value.1 in
-    omega (arith, i, c.fitting-n.ensures.most)
-
-pub write_fields-requires : goal.write_fields-requires
-write_fields-requires c =
-    let f : Fitting (length c.args.out.now) c.args.to 8 c.args.count c.fitting-n.result = rw c.if-size-eq8.true at c.fitting-n.ensures in
-    let i = rw c.if-size-eq8.true at c.requires.size_value.1 in
-    record { size_value = (refl, halves-room (2 ^ 32) 1 256 4 refl (omega arith) c.args.words.now c.args.out.now (known_below w32 c.args.words.now c.type_inv.words) c.args.at c.args.to f i); small_words = λ two. absurd (omega (arith, two)) }
 
 pub returns-then-size-eq8 : goal.returns-then-size-eq8
 returns-then-size-eq8 c =
@@ -31,22 +15,10 @@ returns-then-size-eq8 c =
     let i = rw c.if-size-eq8.true at c.requires.size_value.1 in
     rw c.if-size-eq8.true (halves-stored (2 ^ 32) 1 256 4 refl (omega arith) c.args.words.now c.args.out.now (known_below w32 c.args.words.now c.type_inv.words) c.args.at c.args.to f i c.write_fields.ensures)
 
-pub write_fields-requires-then-size-eq4 : goal.write_fields-requires-then-size-eq4
-write_fields-requires-then-size-eq4 c =
-    let f : Fitting (length c.args.out.now) c.args.to 4 c.args.count c.fitting-n.result = rw c.if-size-eq4.true at c.fitting-n.ensures in
-    let i = rw c.if-size-eq4.true at c.requires.size_value.1 in
-    record { size_value = (refl, run_room (2 ^ 32) 1 256 4 c.args.words.now c.args.out.now c.args.at c.args.to f i); small_words = λ two. absurd (omega (arith, two)) }
-
 pub returns-then-size-eq4 : goal.returns-then-size-eq4
 returns-then-size-eq4 c =
     let f : Fitting (length c.args.out.now) c.args.to 4 c.args.count c.fitting-n.result = rw c.if-size-eq4.true at c.fitting-n.ensures in
     rw c.if-size-eq4.true (run-stored (2 ^ 32) 1 256 4 c.args.words.now c.args.out.now c.args.at c.args.to f c.write_fields-then-size-eq4.ensures)
-
-pub write_chars-requires : goal.write_chars-requires
-write_chars-requires c =
-    let two = run-two c.args.size c.requires.size_value.0 c.if-size-eq8.false c.if-size-eq4.false in
-    let i = rw two at c.requires.size_value.1 in
-    record { count_in_bounds = omega (arith, i, c.fitting-n.ensures.most); small_words = λ same j less. c.requires.small_words two j (omega (arith, less, c.fitting-n.ensures.most)) }
 
 pub returns : goal.returns
 returns c =
