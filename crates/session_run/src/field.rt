@@ -1,4 +1,4 @@
-// Fields whose values tell what follows, that the template has no function for: ids, the head's, and a double with its value.
+// Fields whose values tell what follows, that `layout` has no function for: ids, the head's, and a double with its value.
 ghost use Rattle.std.specs.Prelude.{◌≡◌, ◌+◌, ◌/◌, ◌≤◌, length};
 ghost use Rattle.format.specs.Kind.{Kind, size};
 ghost use Rattle.drawing.specs.Fields as F;
