@@ -70,7 +70,7 @@ pub record Telling (v : ℕ) (s : Inside) (k : Kind) (then : ℕ → Inside) : T
   pub is : inside v s ≡ ask k (λ n. inside v (then n))
 
 module _ {v : ℕ} {s : Inside} {k : Kind} {then : ℕ → Inside} (telling : Telling v s k then) {us : List ℕ} {at to : ℕ} {q : FieldPass} where
-  -- by a function of the template, and by one of those beside it
+  -- by a function of `layout`, and by one of those beside it
   pub asked-inside : 0 < size k.shape → size k.shape ≤ room → Below 256 us → at ≤ length us → {m m' : List ℕ} → Asked k way us m m' at to q → {s' : Inside} → s' ≡ then q.value
       → InsideSteps v s us at to (record { left = s'; pass = q.pass })
   asked-inside wide fits below inside-them asked is =

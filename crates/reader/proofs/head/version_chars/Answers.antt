@@ -1,17 +1,9 @@
 -- `reader::head::version_chars` meets its contract.
 use mir.Syntax.{w8}
 use mathlib.Core.Path.{refl}
-use Rattle.reader.specs.Heads.{chars-cut, chars-low, chars-high, chars_good}
+use Rattle.reader.specs.Heads.{chars-high, chars_good}
 use Rattle.format.specs.LeafLaws.{known_below}
 use Rattle.reader.proofs.head.version_chars.Goals as goal
-
-pub returns-then-file-lt-HEAD_BYTES : goal.returns-then-file-lt-HEAD_BYTES
-returns-then-file-lt-HEAD_BYTES c =
-    chars-cut c.args.file.now (known_below w8 c.args.file.now c.type_inv.file) c.requires.in_bounds c.if-file-lt-HEAD_BYTES.true c.no_version.ensures
-
-pub returns-then-chars-lt-VERSION_ZERO : goal.returns-then-chars-lt-VERSION_ZERO
-returns-then-chars-lt-VERSION_ZERO c =
-    chars-low c.args.file.now (known_below w8 c.args.file.now c.type_inv.file) c.requires.in_bounds c.if-file-lt-HEAD_BYTES.false c.chars_at-chars.ensures c.if-chars-lt-VERSION_ZERO.true c.no_version-then-chars-lt-VERSION_ZERO.ensures
 
 pub returns-then-chars-gt-VERSION_LAST : goal.returns-then-chars-gt-VERSION_LAST
 returns-then-chars-gt-VERSION_LAST c =

@@ -7,7 +7,7 @@ use Rattle.reader.specs.GroupLaws.{group_refused, group_members, group_stop, gro
 use Rattle.reader.specs.MemberLaws.{members_begin, members_stand, members_end, members-stop, members-again}
 use Rattle.reader.specs.BodyLaws.{stands_ready}
 use Rattle.format.specs.LeafLaws.{known_below}
-use Prim.Native.Nat.{◌+◌, ◌-◌, ◌*◌, ◌<◌}
+use Prim.Native.Nat.{◌+◌, ◌-◌}
 use Rattle.reader.proofs.objects.+all_group_object.Goals as goal
 
 pub all-loop-init : goal.all-loop-init

@@ -1,7 +1,6 @@
 use Prim.Native.Nat.{◌+◌, ◌-◌, ◌*◌}
-use mathlib.Core.Path.{◌∙◌}
 use Rattle.reader.specs.MemberLaws.{Going}
-use Prim.Native.Nat.{◌+◌, ◌-◌, ◌*◌, ◌<◌}
+use Prim.Native.Nat.{◌+◌, ◌-◌, ◌*◌}
 use Rattle.reader.proofs.objects.+all_group_object.Given as goal
 
 abbrev pub invariant-all-loop : goal.invariant-all-loop

@@ -1,13 +1,10 @@
 -- `reader::objects::own_body` meets its contract.
 use native.Mathlib.Omega.{arith}
 use mir.Syntax.{w8}
-use Rattle.reader.specs.BodyLaws.{body_grows, row_room, rowed_stopped, rowed_stored}
+use Rattle.reader.specs.BodyLaws.{body_grows, row_room}
 use Rattle.format.specs.LeafLaws.{known_below}
 use Rattle.drawing.specs.LeafLayout.{object_end}
 use Rattle.reader.proofs.objects.own_body.Goals as goal
-
-pub returns-then-behind-ge-REFUSED : goal.returns-then-behind-ge-REFUSED
-returns-then-behind-ge-REFUSED c = rowed_stopped (rw c.put.ensures at c.group_end-behind.ensures) c.if-behind-ge-REFUSED.true c.stopped.ensures
 
 pub overflow_sub-behind : goal.overflow_sub-behind
 overflow_sub-behind c =
@@ -16,6 +13,3 @@ overflow_sub-behind c =
 pub put_row-requires : goal.put_row-requires
 put_row-requires c =
     let grows = body_grows (object_end c.args.version) (known_below w8 c.args.file.now c.type_inv.file) c.requires.stands.inside c.group_end-behind.ensures (omega (arith, c.if-behind-ge-REFUSED.false)) in (row_room c.args.row c.args.to c.requires.stands c.requires.row_le_next (omega arith) grows).1
-
-pub returns : goal.returns
-returns c = rowed_stored (rw c.put.ensures at c.group_end-behind.ensures) c.put_row.ensures
