@@ -1,4 +1,4 @@
-use Rattle.session_run.specs.Objects.{standing_of, head_tells, sound-at, version_range}
+use Rattle.session_run.specs.Objects.{standing_of, head_tells, sound-at}
 use Rattle.pieces.specs.EntryLaws.{rest-version, known}
 use Rattle.pieces.specs.Parts.{rest_at}
 use Rattle.drawing.specs.Fields as F
@@ -10,14 +10,6 @@ use Rattle.session_run.proofs.place.version_step.Goals as goal
 pub returns-then-told-ge-REFUSED : goal.returns-then-told-ge-REFUSED
 returns-then-told-ge-REFUSED c =
     let p = c.args.p in head_tells p c.requires.0 F.version_chars (λ ms v. rest_at 3 (known (standing_of p ms) (v - F.version_zero))) p (λ ms some. rest-version (standing_of p ms)) (omega arith) (λ on. let off = c.if-told-ge-REFUSED.true in absurd (omega arith)) c.judged-told.ensures.around refl
-
-pub overflow_sub-result : goal.overflow_sub-result
-overflow_sub-result c =
-    let on = c.if-told-ge-REFUSED.false in let range = version_range c.judged-told.result.value (c.judged-told.ensures.around.fine (omega arith)) in let low = range.0 in omega arith
-
-pub overflow_cast-result : goal.overflow_cast-result
-overflow_cast-result c =
-    let on = c.if-told-ge-REFUSED.false in let range = version_range c.judged-told.result.value (c.judged-told.ensures.around.fine (omega arith)) in let low = range.0 in let high = range.1 in omega arith
 
 pub returns : goal.returns
 returns c =
