@@ -15,9 +15,6 @@ pub returns-then-bodies-words : goal.returns-then-bodies-words
 returns-then-bodies-words c =
     short-words c.requires.0 c.args.contents.now c.args.bodies.now (known_below w8 c.args.sheet.now c.type_inv.sheet) (omega (arith, c.if-contents-rows.false)) c.if-bodies-words.true (c.answer-then-bodies-words.ensures ∙ ap (λ n. answer 15 n c.args.counts.rows c.args.counts.words) c.requires.1)
 
-pub copy-requires : goal.copy-requires
-copy-requires c = record { counted = c.requires.0; rows_in_bounds = (omega (arith, c.if-contents-rows.false), omega (arith, c.if-bodies-words.false)) }
-
 pub returns : goal.returns
 returns c =
     all-copied c.requires.0 c.args.contents.now c.args.bodies.now (known_below w8 c.args.sheet.now c.type_inv.sheet) (omega (arith, c.if-contents-rows.false)) (omega (arith, c.if-bodies-words.false)) (c.answer-2.ensures ∙ ap (λ n. answer 0 n c.args.counts.rows c.args.counts.words) c.requires.1) c.copy.ensures
