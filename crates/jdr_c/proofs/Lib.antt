@@ -1,0 +1,2 @@
+-- How a question about no part is answered.
+pub mod RefusedRows
