@@ -148,14 +148,9 @@ fn copy_fields(src: &[u8], dst: &mut [u8], at: usize, to: usize, size: usize, co
     ensures { dst.new ≡ splice to (recoded (2 ^ 32) (source_units way size) 256 size count (drop at (units src.now))) dst.old }
 {
     let words = FromSheet::source_units(size);
-    let mut from = at;
-    let mut place = to;
-    let mut left = count;
-    while 0 < left {
-        put_field(dst, place, size, FromSheet::get(&*src, from, size));
-        from = from + words;
-        place = place + size;
-        left = left - 1;
+    for i in 0..count {
+        let value = FromSheet::get(&*src, at + i * words, size);
+        put_field(dst, to + i * size, size, value);
     }
 }
 
@@ -175,11 +170,9 @@ fn all_chars(src: &[u8], from: usize, count: usize) -> bool
     requires { from + count ≤ length (units src.now) }
     ensures { AllChars (units src.now) from count result }
 {
-    let mut i = 0;
     let mut all = 0u32;
-    while i < count {
-        all = all | exchanged_word_in(&*src, from + i);
-        i = i + 1;
+    for i in 0..count {
+        all |= exchanged_word_in(&*src, from + i);
     }
     all % 65536 == 0
 }

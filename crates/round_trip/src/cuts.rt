@@ -71,12 +71,10 @@ pub fn verdict_on_pieces(file: &[u8], cuts: &[u32]) -> Answer
 {
     let mut s = fresh();
     let mut at: usize = 0;
-    let mut i: usize = 0;
-    while i < cuts.len() {
-        let next = given_to(s, file, at, cuts[i]);
+    for cut in cuts {
+        let next = given_to(s, file, at, *cut);
         at = next.at;
         s = next.session;
-        i = i + 1;
     }
     let last = pieced(s, &file[at..]);
     let t = last.session;

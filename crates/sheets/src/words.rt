@@ -62,14 +62,8 @@ fn copy_block(sheet: &[u8], from: usize, bodies: &mut [u32], to: usize)
     requires { (from + 64 ≤ length sheet.now) × (to + 16 ≤ length bodies.old) }
     ensures { bodies.new ≡ splice to (recoded 256 4 (2 ^ 32) 1 16 (drop from sheet.now)) bodies.old }
 {
-    let mut at = from;
-    let mut place = to;
-    let mut left = BLOCK / 2;
-    while 0 < left {
-        copy_pair(&*sheet, at, bodies, place);
-        at = at + 8;
-        place = place + 2;
-        left = left - 1;
+    for pair in 0..BLOCK / 2 {
+        copy_pair(&*sheet, from + 2 * WORD_BYTES * pair, bodies, to + 2 * pair);
     }
 }
 
@@ -78,14 +72,13 @@ fn copy_blocks(sheet: &[u8], from: usize, bodies: &mut [u32], to: usize, count: 
     requires { (16 ≤ count) × Room sheet.now from 4 1 count to (length bodies.old) }
     ensures { bodies.new ≡ splice to (recoded 256 4 (2 ^ 32) 1 count (drop from sheet.now)) bodies.old }
 {
-    let mut at = from;
-    let mut place = to;
-    let mut left = count;
-    while BLOCK < left {
-        copy_block(&*sheet, at, bodies, place);
-        at = at + WORD_BYTES * BLOCK;
-        place = place + BLOCK;
-        left = left - BLOCK;
+    for block in 0..(count - 1) / BLOCK {
+        copy_block(
+            &*sheet,
+            from + WORD_BYTES * BLOCK * block,
+            bodies,
+            to + BLOCK * block,
+        );
     }
     let last = count - BLOCK;
     copy_block(&*sheet, from + WORD_BYTES * last, bodies, to + last);

@@ -7,24 +7,14 @@ use native.Mathlib.Omega.{arith}
 use Rattle.from_sheet.proofs.all_chars.Goals as goal
 
 pub loop-i-init : goal.loop-i-init
-loop-i-init c = (omega arith, mixed_none (units c.args.src.now) c.args.from)
+loop-i-init c = mixed_none (units c.args.src.now) c.args.from
 
 pub overflow_add-from : goal.overflow_add-from
-overflow_add-from c = omega (arith, c.requires, c.loop-i.invariant.0, c.loop-i-test.true, length-unpacked 4 c.args.src.now)
-
-pub exchanged_word_in-all-requires : goal.exchanged_word_in-all-requires
-exchanged_word_in-all-requires c = omega (arith, c.requires, c.loop-i.invariant.0, c.loop-i-test.true, length-unpacked 4 c.args.src.now)
-
-pub overflow_add-i : goal.overflow_add-i
-overflow_add-i c = omega (arith, c.requires, c.loop-i.invariant.0, c.loop-i-test.true, length-unpacked 4 c.args.src.now)
-
-pub loop-i-smaller : goal.loop-i-smaller
-loop-i-smaller c = omega (arith, c.loop-i.invariant.0, c.loop-i-test.true)
+overflow_add-from c = omega (arith, c.requires, c.loop-i-test.true, length-unpacked 4 c.args.src.now)
 
 pub loop-i-preserved : goal.loop-i-preserved
-loop-i-preserved c =
-    (omega (arith, c.loop-i.invariant.0, c.loop-i-test.true), mixed_more (units c.args.src.now) c.args.from c.loop-i.i c.loop-i.all c.exchanged_word_in-all.ensures c.loop-i.invariant.1)
+loop-i-preserved c = mixed_more (units c.args.src.now) c.args.from c.loop-i.i c.loop-i.all c.exchanged_word_in-all.ensures c.loop-i.invariant
 
 pub returns : goal.returns
 returns c =
-    let at_end : ◌≡◌ {A = ℕ} c.loop-i.i c.args.count = omega (arith, c.loop-i.invariant.0, c.loop-i-test.false) in mixed_chars (units c.args.src.now) c.args.from c.args.count c.loop-i.all (rw at_end at c.loop-i.invariant.1)
+    let at_end : ◌≡◌ {A = ℕ} c.loop-i.i c.args.count = omega (arith, c.loop-i.auto.i-end, c.loop-i-test.false) in mixed_chars (units c.args.src.now) c.args.from c.args.count c.loop-i.all (rw at_end at c.loop-i.invariant)

@@ -1,9 +1,6 @@
-use Prim.Native.Nat.{◌^◌}
+use Prim.Native.Nat.{◌+◌, ◌-◌, ◌*◌, ◌^◌}
 use Rattle.memory.specs.StoreLaws.{Storing}
 use Rattle.sheets.proofs.words.copy_block.Given as goal
 
-abbrev pub invariant-loop-left : goal.invariant-loop-left
-invariant-loop-left l = Storing 256 (2 ^ 32) l.sheet l.initial.bodies l.from l.to 8 2 8 l.at l.place l.left l.bodies
-
-abbrev pub decreases-loop-left : goal.decreases-loop-left
-decreases-loop-left l = l.left
+abbrev pub invariant-loop-pair : goal.invariant-loop-pair
+invariant-loop-pair l = Storing 256 (2 ^ 32) l.sheet l.initial.bodies l.from l.to 8 2 8 (l.from + 8 * l.pair) (l.to + 2 * l.pair) (8 - l.pair) l.bodies
