@@ -9,7 +9,7 @@ use Rattle.drawing.specs.Computed.{extent_value, extent_answer}
 use Rattle.questions.specs.Asking.{AskedRow}
 use Rattle.questions.specs.RowQuestions.{asked_part, refused_row, of-row, body-there, short-there}
 use Rattle.extent.specs.ExtentQuestion.{has_outline}
-use Rattle.extent.specs.ExtentLaws.{answered, outline_holds, extent_answered, no_extent_answered}
+use Rattle.extent.specs.ExtentLaws.{answered, outline_holds, extent_answered}
 use Rattle.extent.proofs.extent.extent_of.Goals as goal
 
 -- What is answered of the row that was found is the answer of the question.
@@ -29,12 +29,6 @@ outline_extent-requires c =
     let row = c.in_ok-row.row in
     let it = c.in_ok-row.ensures in
     outline_holds row.contents.now row.words.now row.version row.row c.outline_place-at.ensures it.asked.object (body-there it) (ap has_outline (sym c.kind.ensures) ∙ sym c.has_outline.ensures ∙ c.if-has_outline.true) (short-there it)
-
-pub returns : goal.returns
-returns c =
-    let row = c.in_ok-row.row in
-    let it = c.in_ok-row.ensures in
-    given it (no_extent_answered row.contents.now row.words.now row.version row.row it.asked.object (body-there it) (ap has_outline (sym c.kind.ensures) ∙ sym c.has_outline.ensures ∙ c.if-has_outline.false))
 
 pub returns-in_default : goal.returns-in_default
 returns-in_default c =

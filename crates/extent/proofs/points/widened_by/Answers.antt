@@ -4,21 +4,14 @@ use Rattle.std.proofs.Common.{ap₂, ◌+◌, ◌-◌, ◌*◌}
 use native.Mathlib.Omega.{arith}
 use Rattle.drawing.specs.Extent.{widened}
 use Rattle.extent.specs.Points.{point_at, points_at, folded}
-use Rattle.extent.specs.BoxLaws.{is_number}
 use Rattle.extent.specs.PointLaws.{no_points, point_nan, point-on}
 use Rattle.extent.proofs.points.widened_by.Goals as goal
-
-pub loop-i-init : goal.loop-i-init
-loop-i-init c = ap₂ (λ a n. folded c.args.extent (points_at c.args.words.now a n)) (omega arith) (omega arith)
 
 pub returns-then-nan_at : goal.returns-then-nan_at
 returns-then-nan_at c =
     let at = c.args.from + 4 * c.loop-i.i in
     let left = c.args.points - c.loop-i.i in
     sym (c.loop-i.invariant ∙ point_nan c.args.words.now c.loop-i.kept at left (omega (arith, c.loop-i-test.true)) (sym c.nan_at.ensures ∙ c.if-nan_at.true))
-
-pub widened-kept-requires : goal.widened-kept-requires
-widened-kept-requires c = (omega (arith, c.requires, c.loop-i-test.true), is_number c.nan_at.ensures c.if-nan_at.false)
 
 pub loop-i-preserved : goal.loop-i-preserved
 loop-i-preserved c =

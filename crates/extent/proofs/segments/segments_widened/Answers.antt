@@ -8,11 +8,6 @@ use Rattle.extent.specs.PointLaws.{no_segments, segment-inside, segments-left, s
 use borrow.Author.Rules.{rules}
 use Rattle.extent.proofs.segments.segments_widened.Goals as goal
 
-pub loop-segment-init : goal.loop-segment-init
-loop-segment-init c =
-    let all : c.args.segments ≡ c.args.segments - 0 = omega arith in
-    (ap (λ n. folded c.args.extent (segments_at c.args.words.now c.args.from c.args.own n)) all, subst (λ n. SegmentsInside c.args.words.now c.args.from c.args.own n) all c.requires)
-
 pub offset_bounds-words-at : goal.offset_bounds-words-at
 offset_bounds-words-at c =
     let inside : c.loop-segment.at < length c.args.words.now = omega (arith, segment-inside c.args.words.now c.args.own c.loop-segment.at (c.args.segments - c.loop-segment._segment) refl (omega (arith, c.loop-segment-test.true)) c.loop-segment.invariant.1) in search rules
@@ -20,9 +15,6 @@ offset_bounds-words-at c =
 pub bounds-words-at : goal.bounds-words-at
 bounds-words-at c =
     omega (arith, segment-inside c.args.words.now c.args.own c.loop-segment.at (c.args.segments - c.loop-segment._segment) refl (omega (arith, c.loop-segment-test.true)) c.loop-segment.invariant.1)
-
-pub points_of-points-requires : goal.points_of-points-requires
-points_of-points-requires c = c.loop-segment.invariant.1.own_is
 
 pub overflow_add-at : goal.overflow_add-at
 overflow_add-at c =
@@ -38,10 +30,6 @@ returns-in_default c =
 
 pub overflow_add-at-in-loop-segment : goal.overflow_add-at-in-loop-segment
 overflow_add-at-in-loop-segment c =
-    omega (arith, segment-inside c.args.words.now c.args.own c.loop-segment.at (c.args.segments - c.loop-segment._segment) c.points_of-points.ensures (omega (arith, c.loop-segment-test.true)) c.loop-segment.invariant.1)
-
-pub overflow_mul-at : goal.overflow_mul-at
-overflow_mul-at c =
     omega (arith, segment-inside c.args.words.now c.args.own c.loop-segment.at (c.args.segments - c.loop-segment._segment) c.points_of-points.ensures (omega (arith, c.loop-segment-test.true)) c.loop-segment.invariant.1)
 
 pub overflow_add-at-in-loop-segment-2 : goal.overflow_add-at-in-loop-segment-2

@@ -1,5 +1,5 @@
 -- `listing::label::is_labelled` meets its contract.
-use Rattle.listing.specs.LabelLaws.{label_early, too_long_lem, other-number, other-chars, told-by-place}
+use Rattle.listing.specs.LabelLaws.{too_long_lem, other-number, other-chars, told-by-place}
 use Rattle.places.specs.EndLaws.{described, some_description}
 use mathlib.Core.Path.{sym, ◌∙◌}
 use native.Mathlib.Omega.{arith}
@@ -7,32 +7,15 @@ use lib.ListN.{length}
 use Prim.Native.Nat.{◌+◌, ◌-◌}
 use Rattle.listing.proofs.label.is_labelled.Goals as goal
 
-pub returns-then-row-lt-V1_2 : goal.returns-then-row-lt-V1_2
-returns-then-row-lt-V1_2 c =
-    let row = c.args.row.now in
-    λ o body. label_early row.contents.now row.words.now row.version row.row c.args.label.now c.if-row-lt-V1_2.true o body
-
 pub returns-then-size-chars : goal.returns-then-size-chars
 returns-then-size-chars c =
     let row = c.args.row.now in
     λ o body. too_long_lem row.contents.now row.words.now row.version row.row c.args.label.now o (some_description row.contents.now row.words.now row.version row.row (omega (arith, c.if-row-lt-V1_2.false)) o body).1 (omega (arith, body.size_is, c.if-size-chars.true, c.size-size.ensures.is))
 
-pub overflow_add-from : goal.overflow_add-from
-overflow_add-from c = let fit = c.type_inv.row in omega (arith, c.size-size.ensures.inside, c.start.ensures.is, fit)
-
-pub offset_bounds-row-from : goal.offset_bounds-row-from
-offset_bounds-row-from c = let fit = c.type_inv.row in omega (arith, c.size-size.ensures.inside, c.start.ensures.is, fit)
-
-pub bounds-row-from : goal.bounds-row-from
-bounds-row-from c = omega (arith, c.size-size.ensures.inside, c.start.ensures.is, c.if-size-chars.false)
-
 pub returns-then-row-from : goal.returns-then-row-from
 returns-then-row-from c =
     let row = c.args.row.now in
     λ o body. other-number row.contents.now row.words.now row.version row.row c.args.label.now o (some_description row.contents.now row.words.now row.version row.row (omega (arith, c.if-row-lt-V1_2.false)) o body).1 (c.start.result + c.size-size.result - length c.args.label.now) (omega (arith, body.size_is, c.if-size-chars.false, c.start.ensures.is, c.size-size.ensures.is)) c.if-row-from.true
-
-pub same_chars-requires : goal.same_chars-requires
-same_chars-requires c = omega (arith, c.size-size.ensures.inside, c.start.ensures.is, c.if-size-chars.false)
 
 pub returns-then-same_chars : goal.returns-then-same_chars
 returns-then-same_chars c =

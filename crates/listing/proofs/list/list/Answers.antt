@@ -1,15 +1,11 @@
 -- `listing::list::list` meets its contract.
 use mathlib.Core.Path.{refl, sym, subst}
-use Rattle.listing.specs.ListLaws.{some_word, table_here, count_small, list_short, list_stored, list_stored-at_once}
+use Rattle.listing.specs.ListLaws.{table_here, count_small, list_short, list_stored, list_stored-at_once}
 use Rattle.format.specs.LeafLaws.{known_below}
 use Rattle.promises.specs.Promises.{Lists}
 use native.Mathlib.Omega.{arith}
 use mir.Syntax.{w32}
 use Rattle.listing.proofs.list.list.Goals as goal
-
-pub bounds-words-0 : goal.bounds-words-0
-bounds-words-0 c =
-    some_word (known_below w32 c.args.words.now c.type_inv.words) c.in-Some.ensures c.args.label.now c.args.room.now refl
 
 pub entries-requires : goal.entries-requires
 entries-requires c =
@@ -40,10 +36,6 @@ returns-then-room-count c =
 pub entries-requires-2 : goal.entries-requires-2
 entries-requires-2 c =
     table_here (known_below w32 c.args.words.now c.type_inv.words) c.in-Some.ensures c.args.label.now c.args.room.now refl
-
-pub listed-requires-2 : goal.listed-requires-2
-listed-requires-2 c =
-    omega (arith, count_small (known_below w32 c.args.words.now c.type_inv.words) c.in-Some.ensures c.args.label.now c.args.room.now refl c.entries-count.ensures)
 
 pub returns : goal.returns
 returns c =

@@ -3,15 +3,10 @@ use Prim.Native.Nat.{◌≤◌}
 use native.Mathlib.Omega.{arith}
 use Rattle.std.proofs.Math.Logic.{∥∥₁_elim}
 use Rattle.std.specs.Coded.{le_prop}
-use Rattle.questions.specs.DescriptionLaws.{early_answered, description_inside, late_answered}
+use Rattle.questions.specs.DescriptionLaws.{description_inside, late_answered}
 use Rattle.places.specs.EndLaws.{described}
 use Rattle.places.specs.RowLaws.{row_short}
 use Rattle.questions.proofs.description.description_of.Goals as goal
-
-pub returns-then-row-lt-V1_2 : goal.returns-then-row-lt-V1_2
-returns-then-row-lt-V1_2 c =
-    let row = c.args.row.now in
-    λ o body. early_answered row.contents.now row.words.now row.version row.row o body c.if-row-lt-V1_2.true
 
 pub chars_at-requires : goal.chars_at-requires
 chars_at-requires c =

@@ -1,18 +1,8 @@
 -- `questions::paint_words::paint_at` meets its contract.
-use Rattle.questions.specs.PaintLaws.{paint-inside, linear_is, radial_is, paint_is_plain, start_is, end_is, last_is}
+use Rattle.questions.specs.PaintLaws.{linear_is, radial_is, paint_is_plain, start_is, end_is, last_is}
 use Rattle.drawing.specs.Questions.{part, plain_value, paint_value}
 use mathlib.Core.Path.{ap, ◌∙◌}
-use native.Mathlib.Omega.{arith}
 use Rattle.questions.proofs.paint_words.paint_at.Goals as goal
-
-pub bounds-words-at : goal.bounds-words-at
-bounds-words-at c = paint-inside c.args.version c.requires.here
-
-pub overflow_cast-letter : goal.overflow_cast-letter
-overflow_cast-letter c = let fit = c.type_inv.words c.args.at in omega (arith, fit)
-
-pub behind-second-requires : goal.behind-second-requires
-behind-second-requires c = (omega (arith, paint-inside c.args.version c.requires.here), c.requires.short)
 
 pub plain_at-requires : goal.plain_at-requires
 plain_at-requires c = (start_is (linear_is c.args.version c.requires.value c.requires.here c.if-letter-eq-LINEAR.true)).here
@@ -34,9 +24,6 @@ returns-then-letter-eq-LINEAR c =
     let last = (last_is it c.behind-second.ensures.is c.behind-last.ensures.is).1 in
     let same = ap (λ x. paint_value (part x)) it.is in
     cc
-
-pub behind-second-requires-then-letter-eq-RADIAL : goal.behind-second-requires-then-letter-eq-RADIAL
-behind-second-requires-then-letter-eq-RADIAL c = (omega (arith, paint-inside c.args.version c.requires.here), c.requires.short)
 
 pub plain_at-requires-then-letter-eq-RADIAL : goal.plain_at-requires-then-letter-eq-RADIAL
 plain_at-requires-then-letter-eq-RADIAL c = (start_is (radial_is c.args.version c.requires.value c.requires.here c.if-letter-eq-RADIAL.true)).here

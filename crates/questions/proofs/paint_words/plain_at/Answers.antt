@@ -5,9 +5,6 @@ use Rattle.drawing.specs.Questions.{plain_value}
 use Rattle.questions.specs.PaintLaws.{plain_here, plain-lettered, plain_other}
 use Rattle.questions.proofs.paint_words.plain_at.Goals as goal
 
-pub overflow_cast-letter : goal.overflow_cast-letter
-overflow_cast-letter c = let fit = c.type_inv.words c.args.at in omega (arith, fit)
-
 pub float_at-requires : goal.float_at-requires
 float_at-requires c =
     let here = plain_here c.args.words.now c.args.at c.if-letter-eq-RGB.true c.requires in (omega (arith, here.0), here.1.0)

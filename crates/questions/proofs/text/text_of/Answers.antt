@@ -8,7 +8,7 @@ use Rattle.drawing.specs.Computed.{text_value, text_answer}
 use Rattle.drawing.specs.Table.{start_in}
 use Rattle.questions.specs.Asking.{AskedRow}
 use Rattle.questions.specs.TextQuestion.{has_text}
-use Rattle.questions.specs.TextLaws.{answered, latex_holds, chars_inside, text-answered, no_text-answered}
+use Rattle.questions.specs.TextLaws.{answered, latex_holds, chars_inside, text-answered}
 use Rattle.questions.specs.RowQuestions.{asked_part, refused_row, of-row, body-there, short-there}
 use Rattle.questions.proofs.text.text_of.Goals as goal
 
@@ -41,9 +41,3 @@ returns-then-has_text c =
     let row = c.in_ok-row.row in
     let it = c.in_ok-row.ensures in
     given it (text-answered row.contents.now row.words.now row.version row.row c.text_places-places.ensures it.asked.object (body-there it) (ap has_text (sym c.kind.ensures) ∙ sym c.has_text.ensures ∙ c.if-has_text.true) c.alternative_chars-alternative.ensures c.chars_at.ensures)
-
-pub returns : goal.returns
-returns c =
-    let row = c.in_ok-row.row in
-    let it = c.in_ok-row.ensures in
-    given it (no_text-answered row.contents.now row.words.now row.version row.row it.asked.object (body-there it) (ap has_text (sym c.kind.ensures) ∙ sym c.has_text.ensures ∙ c.if-has_text.false))

@@ -1,7 +1,4 @@
-use Rattle.session.specs.Turning.{fits, came_within, turns-held, turns_full, turns-behind, turns-on, turns_stopped}
-use lib.Seq.{length-take-le}
-use lib.ListN.{length-take}
-use mathlib.Core.Path.{sym, refl}
+use Rattle.session.specs.Turning.{turns-held, turns_full, turns-behind, turns-on, turns_stopped}
 use native.Mathlib.Omega.{arith}
 use Rattle.session.proofs.feed.turned.Goals as goal
 
@@ -20,14 +17,6 @@ returns-then-t-eq0 c =
 pub returns-then-held-t : goal.returns-then-held-t
 returns-then-held-t c =
     let r = c.requires in turns-behind c.run_joined-t.ensures r.0 r.1 r.2 (omega arith) c.with_held-then-held-t.ensures
-
-pub slice_bounds-appended-end : goal.slice_bounds-appended-end
-slice_bounds-appended-end c =
-    let t = c.run_joined-t in let full = t.ensures.full in let most = fits t.ensures c.requires.0 c.requires.1 c.requires.2 in sym (length-take-le t.result.all t.result.buffer (omega arith))
-
-pub appended-buffer-requires : goal.appended-buffer-requires
-appended-buffer-requires c =
-    let t = c.run_joined-t in let r = c.requires in let full = t.ensures.full in let most = fits t.ensures r.0 r.1 r.2 in let came = came_within t.ensures r.0 r.1 r.2 in let long = length-take t.result.all t.result.buffer in (refl, omega arith, omega arith)
 
 pub returns : goal.returns
 returns c =

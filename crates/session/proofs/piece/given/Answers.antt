@@ -1,4 +1,4 @@
-use Rattle.session.specs.Giving.{Gives, gives_same, gives_long, gives_counted, fed_needs, gives_run}
+use Rattle.session.specs.Giving.{Gives, gives_same, gives_long, gives_counted, gives_run}
 use mathlib.Core.Path.{sym, subst}
 use native.Mathlib.Omega.{arith}
 use Rattle.session.proofs.piece.given.Goals as goal
@@ -9,10 +9,6 @@ returns-then-s-gt-LENGTH_LIMIT c = gives_same c.args.s c.args.bytes.now (omega a
 pub returns-then-s-bytes : goal.returns-then-s-bytes
 returns-then-s-bytes c =
     subst (Gives c.args.s c.args.bytes.now) (sym c.with_bytes.ensures) (gives_long c.args.s c.args.bytes.now (omega arith) (omega arith))
-
-pub fed-requires : goal.fed-requires
-fed-requires c =
-    fed_needs c.args.s c.args.bytes.now (omega arith) (c.is_runnable.ensures.yes c.if-is_runnable.true) c.requires.0 (omega arith) c.with_bytes-then-is_runnable.ensures
 
 pub returns-then-is_runnable : goal.returns-then-is_runnable
 returns-then-is_runnable c =

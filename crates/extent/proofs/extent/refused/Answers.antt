@@ -1,8 +1,0 @@
--- `extent::extent::refused` meets its contract.
-use mathlib.Core.Path.{refl}
-use lib.Ieee.{of_bits}
-use Rattle.extent.proofs.extent.refused.Goals as goal
-
-pub returns : goal.returns
-unfolding of_bits
-returns c = refl
