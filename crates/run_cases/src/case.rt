@@ -1,4 +1,5 @@
 // What the file of a case of a table holds.
+ghost use Rattle.std.specs.Prelude.{take, drop, get_or, length, ◌≡◌, ◌<◌, ◌≤◌, IfSome, IsNone};
 
 use crate::cut::cut_run;
 
@@ -11,7 +12,13 @@ pub struct Case<'a> {
 }
 
 impl<'a> Case<'a> {
-    pub fn of(words: &'a [u32]) -> Option<Case<'a>> {
+    pub fn of(words: &'a [u32]) -> Option<Case<'a>>
+        ensures none { IsNone result → length words.now < 2 }
+        ensures some { IfSome result (λ c. 2 ≤ length words.now) }
+        ensures contents { IfSome result (λ c. c.contents.now ≡ take (get_or words.now 0 0) (drop 2 words.now)) }
+        ensures bodies { IfSome result (λ c. c.bodies.now ≡ take (get_or words.now 1 0) (drop (get_or words.now 0 0) (drop 2 words.now))) }
+        ensures rest { IfSome result (λ c. c.rest.now ≡ drop (get_or words.now 1 0) (drop (get_or words.now 0 0) (drop 2 words.now))) }
+    {
         let [contents, bodies, rest @ ..] = words else {
             return None;
         };
