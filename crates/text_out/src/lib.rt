@@ -6,10 +6,12 @@ ghost use Rattle.arrayvec.specs.ArrayVec.{array_vec_len};
 ghost use Rattle.text_out.specs.Held.{held_after, held_after_all};
 
 use arrayvec::ArrayVec;
+pub use lent::{Buffer, flush, put, put_all, put_decimal, put_next, within};
 use std::fmt;
 use std::io::{Print, Stdout};
 
 pub mod input;
+mod lent;
 
 // Gathers what is put into it, so that many short pieces are written by few calls: 4,096 bytes are written at once. What it
 // writes goes to the standard output that it is made with. A write that fails is let go, and what it was to write is lost.
@@ -40,7 +42,17 @@ impl TextOut {
         self.held.push(byte);
     }
 
+    // What all fits is put at once.
+    #[tactic(auto, using(crate::proofs::Fitting::held_fitting))]
     pub fn put_all(&mut self, bytes: &[u8])
+        ensures { self.new.held.items ≡ held_after_all self.old.held.items bytes.now }
+    {
+        if self.held.try_extend_from_slice(bytes).is_err() {
+            self.put_each(bytes);
+        }
+    }
+
+    fn put_each(&mut self, bytes: &[u8])
         ensures { self.new.held.items ≡ held_after_all self.old.held.items bytes.now }
     {
         for byte in bytes {

@@ -1,0 +1,2 @@
+-- What the buffer holds behind bytes that all fit.
+pub mod Fitting
