@@ -1,6 +1,6 @@
 // Cases of `description`: a data file is a table's, with the rows to ask about behind it.
 
-use crate::asked::put_rows;
+use crate::asked::{put_numbers, put_rows};
 use crate::case::Case;
 use drawing::DescriptionAnswer;
 use std::fmt;
@@ -24,6 +24,6 @@ struct Description(DescriptionAnswer);
 impl fmt::Display for Description {
     fn fmt<W: fmt::Write>(&self, f: &mut fmt::Formatter<W>) -> fmt::Result {
         let DescriptionAnswer { number, chars } = self.0;
-        write!(f, " {number} {} {}", chars.start, chars.length)
+        put_numbers(f, [number, chars.start, chars.length])
     }
 }

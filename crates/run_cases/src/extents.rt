@@ -1,6 +1,6 @@
 // Cases of `extent`: a data file is a table's, with the rows to ask about behind it.
 
-use crate::asked::put_rows;
+use crate::asked::{put_numbers, put_rows};
 use crate::case::Case;
 use drawing::ExtentAnswer;
 use std::fmt;
@@ -24,11 +24,22 @@ struct Sides(ExtentAnswer);
 impl fmt::Display for Sides {
     fn fmt<W: fmt::Write>(&self, f: &mut fmt::Formatter<W>) -> fmt::Result {
         let ExtentAnswer { number, extent } = self.0;
-        write!(f, " {number}")?;
+        put_numbers(f, [number])?;
         for side in [extent.left, extent.bottom, extent.right, extent.top] {
-            write!(f, " {:016x}", bits(side))?;
+            f.write_str(" ")?;
+            put_digits(f, bits(side))?;
         }
         Ok(())
+    }
+}
+
+// Sixteen digits. `{:016x}` would put each 0 before a number by itself.
+fn put_digits<W: fmt::Write>(f: &mut fmt::Formatter<W>, bits: u64) -> fmt::Result {
+    let mut digits = [0u8; 16];
+    hex::encode_to_slice(bits.to_be_bytes(), &mut digits).unwrap();
+    match str::from_utf8(&digits) {
+        Ok(text) => f.write_str(text),
+        Err(_) => Err(fmt::Error),
     }
 }
 

@@ -9,6 +9,7 @@ use call::{Call, NoCall};
 use case::Case;
 use cut::{cut_at, get_words};
 use std::fs::{File, Files};
+use std::io::Read;
 use text_out::TextOut;
 use text_out::input::read_full;
 
@@ -59,16 +60,20 @@ fn put_cases<R: Files>(files: &R, out: &mut TextOut, list: &[u8]) {
 fn put_case<R: Files>(files: &R, out: &mut TextOut, name: &[u8]) {
     out.put_all(name);
     match open(files, name) {
-        Some(mut file) => {
-            // It holds two counts, any table that the reader fills, and a label.
-            let mut room = [0u8; 416000];
-            let length = read_full(&mut file, &mut room);
-            let (call, _) = cut_at(name, b'/');
-            put_call(out, Call::try_from(call), &room[..length]);
-        }
+        Some(mut file) => put_file(out, name, &mut file),
         None => out.put_all(b" does not open"),
     }
     out.put(b'\n');
+}
+
+// A function of its own, as `put_words_call`, since a function fills its rooms when it is entered, whether they are used or not.
+#[inline(never)]
+fn put_file<F: Read>(out: &mut TextOut, name: &[u8], file: &mut F) {
+    // It holds two counts, any table that the reader fills, and a label.
+    let mut room = [0u8; 416000];
+    let length = read_full(file, &mut room);
+    let (call, _) = cut_at(name, b'/');
+    put_call(out, Call::try_from(call), &room[..length]);
 }
 
 // The names of files are UTF-8 text.
@@ -87,6 +92,7 @@ fn put_call(out: &mut TextOut, call: Result<Call, NoCall>, file: &[u8]) {
 }
 
 // Those of a session take the words and the file; all others take a table.
+#[inline(never)]
 fn put_words_call(out: &mut TextOut, call: Result<Call, NoCall>, file: &[u8]) {
     let mut room = [0u32; 104000];
     let count = get_words(file, &mut room);
