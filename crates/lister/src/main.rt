@@ -3,7 +3,7 @@
 
 use kind::Kind;
 use std::fmt;
-use std::fmt::Write;
+use std::fmt::{Display, Write};
 use text_out::TextOut;
 use text_out::input::read_full;
 
@@ -13,14 +13,20 @@ fn main(rt: HostRuntime) {
     // One byte more than is taken, to know whether there is more.
     let mut file = [0u8; 8193];
     let length = read_full(&mut rt.stdin(), &mut file);
+    let mut out = TextOut::new(rt.stdout());
+    put_listing(&mut out, &file[..length]);
+    out.flush();
+}
+
+// A function of its own, so that its memory is filled once.
+#[inline(never)]
+fn put_listing(out: &mut TextOut, file: &[u8]) {
     let mut contents = [0u32; 4680];
     let mut bodies = [0u32; 8192];
-    let mut out = TextOut::new(rt.stdout());
-    let _ = match read(&file[..length], &mut contents, &mut bodies) {
+    let _ = match read(file, &mut contents, &mut bodies) {
         Ok(table) => write!(out, "{table}"),
         Err(refusal) => writeln!(out, "{refusal}"),
     };
-    out.flush();
 }
 
 // A table, printed as a line of its version and its counts and a line for each row.
@@ -64,18 +70,34 @@ fn read<'a>(
     })
 }
 
-impl fmt::Display for Table<'_> {
+impl Display for Table<'_> {
     fn fmt<W: fmt::Write>(&self, f: &mut fmt::Formatter<W>) -> fmt::Result {
         writeln!(f, "1.{} {} {}", self.version, self.rows.len(), self.words)?;
         for (row, [kind, parent, start, length]) in self.rows.iter().enumerate() {
-            let kind = Kind::from(*kind);
-            writeln!(f, "{row} {kind} {parent} {start} {length}")?;
+            put_row(f, row, Kind::from(*kind), [*parent, *start, *length])?;
         }
         Ok(())
     }
 }
 
-impl fmt::Display for Refusal {
+// A row's line. Its parts are written one by one, since there are many rows, and a hole of `write!` costs as much again as a number.
+fn put_row<W: fmt::Write>(
+    f: &mut fmt::Formatter<W>,
+    row: usize,
+    kind: Kind,
+    numbers: [u32; 3],
+) -> fmt::Result {
+    row.fmt(f)?;
+    f.write_str(" ")?;
+    kind.fmt(f)?;
+    for number in numbers {
+        f.write_str(" ")?;
+        number.fmt(f)?;
+    }
+    f.write_str("\n")
+}
+
+impl Display for Refusal {
     fn fmt<W: fmt::Write>(&self, f: &mut fmt::Formatter<W>) -> fmt::Result {
         write!(f, "refused {} {}", self.number, self.offset)
     }
