@@ -4,6 +4,7 @@ ghost use Rattle.promises.specs.Promises.{Extents};
 ghost use Rattle.drawing.specs.Computed.{extent_answer, extent_value};
 ghost use Rattle.drawing.specs.Extent.{no_extent};
 ghost use Rattle.extent.specs.ExtentQuestion.{extent_found};
+ghost use Rattle.questions.specs.Asking.{number_of};
 
 use crate::outline::{has_outline, outline_place};
 use crate::segments::outline_extent;
@@ -26,11 +27,11 @@ fn extent_of(contents: &[u32], words: &[u32], row: u32) -> Result<Extent, Refusa
 }
 
 // A refusal has a box of positive zeros.
-fn refused(number: u32) -> ExtentAnswer
-    ensures { result ≡ extent_value (no_extent number) }
+fn refused(refusal: Refusal) -> ExtentAnswer
+    ensures { result ≡ extent_value (no_extent (number_of refusal)) }
 {
     ExtentAnswer {
-        number,
+        number: refusal.number(),
         extent: Extent {
             left: 0.0,
             bottom: 0.0,
@@ -48,6 +49,6 @@ pub fn extent(contents: &[u32], words: &[u32], row: u32) -> ExtentAnswer
             number: ACCEPTED,
             extent,
         },
-        Err(refusal) => refused(refusal.number()),
+        Err(refusal) => refused(refusal),
     }
 }

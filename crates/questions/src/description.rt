@@ -1,8 +1,11 @@
 // The description question.
+ghost use Rattle.std.specs.Prelude.{◌≡◌};
+ghost use Rattle.drawing.specs.Questions.{no_description};
 ghost use Rattle.promises.specs.Promises.{Descriptions};
+ghost use Rattle.questions.specs.Asking.{number_of};
 ghost use Rattle.questions.specs.DescriptionQuestion.{DescriptionStands};
 
-use crate::asked::asked;
+use crate::asked::{Refusal, asked};
 use crate::text::{NO_CHARS, chars_at};
 use drawing::limits::V1_2;
 use drawing::numbers::ACCEPTED;
@@ -22,6 +25,16 @@ fn description_of(row: &Row) -> Span
     chars_at(row.words, description)
 }
 
+// A refusal has no chars.
+fn refused(refusal: Refusal) -> DescriptionAnswer
+    ensures { result ≡ no_description (number_of refusal) }
+{
+    DescriptionAnswer {
+        number: refusal.number(),
+        chars: NO_CHARS,
+    }
+}
+
 pub fn description(contents: &[u32], words: &[u32], row: u32) -> DescriptionAnswer
     ensures { Descriptions contents.now words.now row result }
 {
@@ -30,9 +43,6 @@ pub fn description(contents: &[u32], words: &[u32], row: u32) -> DescriptionAnsw
             number: ACCEPTED,
             chars: description_of(&row),
         },
-        Err(refusal) => DescriptionAnswer {
-            number: refusal.number(),
-            chars: NO_CHARS,
-        },
+        Err(refusal) => refused(refusal),
     }
 }

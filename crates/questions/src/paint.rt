@@ -2,6 +2,8 @@
 ghost use Rattle.std.specs.Prelude.{◌≡◌, MatchOption};
 ghost use Rattle.promises.specs.Promises.{Paints};
 ghost use Rattle.drawing.specs.Computed.{paint_answer};
+ghost use Rattle.drawing.specs.declared.PaintAnswer.TheVariants.{Refused};
+ghost use Rattle.questions.specs.Asking.{number_of};
 ghost use Rattle.questions.specs.PaintQuestion.{paint_found, Unpainted, PaintedAt};
 
 use crate::asked::{Refusal, asked};
@@ -37,11 +39,17 @@ fn paint_of(contents: &[u32], words: &[u32], row: u32, which: Which) -> Result<P
     Ok(paint_at(row.words, at, row.version))
 }
 
+fn refused(refusal: Refusal) -> PaintAnswer
+    ensures { result ≡ Refused (number_of refusal) }
+{
+    PaintAnswer::Refused(refusal.number())
+}
+
 pub fn paint(contents: &[u32], words: &[u32], row: u32, which: Which) -> PaintAnswer
     ensures { Paints contents.now words.now row which result }
 {
     match paint_of(contents, words, row, which) {
         Ok(paint) => paint,
-        Err(refusal) => PaintAnswer::Refused(refusal.number()),
+        Err(refusal) => refused(refusal),
     }
 }

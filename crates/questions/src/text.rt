@@ -1,11 +1,13 @@
 // The text question.
 ghost use Rattle.std.specs.Prelude.{◌≡◌, ◌<◌, ◌≤◌, length};
 ghost use Rattle.promises.specs.Promises.{Texts};
-ghost use Rattle.drawing.specs.Computed.{text_answer};
+ghost use Rattle.drawing.specs.Computed.{text_answer, text_value};
 ghost use Rattle.drawing.specs.Limits.{length_limit};
 ghost use Rattle.drawing.specs.Choices.{if_flag};
+ghost use Rattle.drawing.specs.Questions.{no_text};
 ghost use Rattle.drawing.specs.Text as T;
 ghost use Rattle.places.specs.Places.{Holds};
+ghost use Rattle.questions.specs.Asking.{number_of};
 ghost use Rattle.questions.specs.TextQuestion.{CharsRead, AlternativeRead, text_found};
 
 use crate::asked::{Refusal, asked};
@@ -56,6 +58,17 @@ fn text_of(contents: &[u32], words: &[u32], row: u32) -> Result<(Span, Span), Re
     Err(Refusal::NoPart)
 }
 
+// A refusal has no chars.
+fn refused(refusal: Refusal) -> TextAnswer
+    ensures { result ≡ text_value (no_text (number_of refusal)) }
+{
+    TextAnswer {
+        number: refusal.number(),
+        alternative: NO_CHARS,
+        text: NO_CHARS,
+    }
+}
+
 pub fn text(contents: &[u32], words: &[u32], row: u32) -> TextAnswer
     ensures { Texts contents.now words.now row result }
 {
@@ -65,10 +78,6 @@ pub fn text(contents: &[u32], words: &[u32], row: u32) -> TextAnswer
             alternative,
             text,
         },
-        Err(refusal) => TextAnswer {
-            number: refusal.number(),
-            alternative: NO_CHARS,
-            text: NO_CHARS,
-        },
+        Err(refusal) => refused(refusal),
     }
 }

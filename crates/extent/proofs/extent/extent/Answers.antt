@@ -1,9 +1,7 @@
 -- `extent::extent::extent` meets its contract.
 use mir.Syntax.{w32}
-use mathlib.Core.Path.{ap, ◌∙◌}
+use mathlib.Core.Path.{◌∙◌}
 use Rattle.format.specs.LeafLaws.{known_below}
-use Rattle.drawing.specs.Extent.{no_extent}
-use Rattle.drawing.specs.Computed.{extent_value}
 use Rattle.promises.proofs.PromiseLaws.{extents}
 use Rattle.extent.proofs.extent.extent.Goals as goal
 
@@ -11,4 +9,4 @@ pub returns-in-Ok : goal.returns-in-Ok
 returns-in-Ok c = extents (known_below w32 c.args.words.now c.type_inv.words) c.in-Ok.ensures
 
 pub returns-in-Err : goal.returns-in-Err
-returns-in-Err c = extents (known_below w32 c.args.words.now c.type_inv.words) (c.refused.ensures ∙ ap (λ n. extent_value (no_extent n)) c.number.ensures ∙ c.in-Err.ensures)
+returns-in-Err c = extents (known_below w32 c.args.words.now c.type_inv.words) (c.refused.ensures ∙ c.in-Err.ensures)

@@ -21,5 +21,5 @@ returns-in-Ok c =
 pub returns-in-Err : goal.returns-in-Err
 returns-in-Err c =
     descriptions (known_below w32 c.args.words.now c.type_inv.words)
-    (ap no_description c.number.ensures
+    (c.refused.ensures
     ∙ refused_row (λ d. description_part) (λ d x. description_place d.version (end_in c.args.contents.now c.args.row) x) no_description (λ d n. refl) c.args.contents.now c.args.words.now c.args.row c.in-Err.refusal c.in-Err.ensures)

@@ -1,9 +1,7 @@
 -- `questions::text::text` meets its contract.
 use mir.Syntax.{w32}
-use mathlib.Core.Path.{ap, ◌∙◌}
+use mathlib.Core.Path.{◌∙◌}
 use Rattle.format.specs.LeafLaws.{known_below}
-use Rattle.drawing.specs.Questions.{no_text}
-use Rattle.drawing.specs.Computed.{text_value}
 use Rattle.promises.proofs.PromiseLaws.{texts}
 use Rattle.questions.proofs.text.text.Goals as goal
 
@@ -11,4 +9,4 @@ pub returns-in-Ok : goal.returns-in-Ok
 returns-in-Ok c = texts (known_below w32 c.args.words.now c.type_inv.words) c.in-Ok.ensures
 
 pub returns-in-Err : goal.returns-in-Err
-returns-in-Err c = texts (known_below w32 c.args.words.now c.type_inv.words) (ap (λ n. text_value (no_text n)) c.number.ensures ∙ c.in-Err.ensures)
+returns-in-Err c = texts (known_below w32 c.args.words.now c.type_inv.words) (c.refused.ensures ∙ c.in-Err.ensures)
